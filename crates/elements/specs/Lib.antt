@@ -1,0 +1,4 @@
+pub mod Kinds
+pub mod Answers
+pub mod Codes
+pub mod Refusals

@@ -1,0 +1,107 @@
+-- The calls of a tray: what each answers and what it leaves, refused or not, as a function of the whole state before.
+use mathlib.Core.Path.{_≡_, refl}
+use mathlib.Core.Bool.{Bool, cond, _&&_}
+use mathlib.Core.List.{List, [], _∷_, _++_}
+use Prim.Native.Nat.{ℕ, _+_, _-_, min}
+use lib.Dec.{ltb}
+use lib.ListN.{length, set, drop, replicate}
+use lib.IntN.{pos, negsuc}
+use Rattle.std.specs.declared.result.Result.{Result}
+use Rattle.std.specs.declared.result.Result.the-variants.{Ok, Err}
+use Rattle.elements.specs.Kinds.{ElementKind}
+use Rattle.elements.specs.Codes.{reply}
+use Rattle.elements.specs.Refusals.{refusal}
+use Rattle.elements.specs.declared.commands.Command.{Command}
+use Rattle.elements.specs.declared.commands.Reply.{Reply}
+use Rattle.elements.specs.declared.commands.Code.the-variants.{StoodOff}
+use Rattle.elements.specs.declared.answers.StepAnswer.{StepAnswer}
+use Rattle.elements.specs.declared.refusals.Refusal.{Refusal}
+use Rattle.elements.specs.declared.refusals.Cause.the-variants.{NoSuchWorker, NotIdle, UnknownKind, NoSeatingsLeft, NothingToTake}
+use Rattle.elements.specs.declared.refusals.Layer.the-variants.{Piece}
+use Rattle.pieces.specs.declared.tray.records.Cell.{Cell}
+use Rattle.pieces.specs.declared.tray.records.Head.{Head}
+use Rattle.pieces.specs.declared.tray.records.Seat.{Seat}
+use Rattle.pieces.specs.declared.tray.records.Seat.the-variants.{Empty, Loaded, HeadRead, CellRead, CellWritten, NeighbourRead, Ended}
+use Rattle.pieces.specs.TrayKinds.{tray-knows}
+use Rattle.pieces.specs.TrayStates.{TrayState, seat-at, with-seat}
+use Rattle.pieces.specs.TrayAccess.{accessed}
+
+-- what a call answers, and what it leaves, are what a function says
+pub record Exactly {R S : Type 0} (r : R) (s : S) (y : R × S) : Type 0 where
+  pub answer : r ≡ y .0
+  pub left : s ≡ y .1
+
+-- how often a tray can be seated
+abbrev pub most-seatings : ℕ
+most-seatings = 4000000000
+
+-- the first n places of a strip, written anew
+abbrev pub filled : {A : Type 0} → ℕ → A → List A → List A
+filled n a xs = replicate n a ++ drop n xs
+
+module _ {E : Type 0} where
+  -- the state with a command seated
+  abbrev pub loaded : TrayState E → ℕ → Command E → TrayState E
+  loaded s i c = record { cells = s .cells; heads = s .heads; seats = set (s .seats) i (Loaded c); seatings = s .seatings + 1; room = s .room; count = s .count }
+
+  -- seating at an empty seat
+  abbrev pub admitted : TrayState E → ℕ → Command E → Result (Unit {0}) Refusal × TrayState E
+  admitted s i c =
+      cond (tray-knows (c .kind))
+           (cond (ltb (s .seatings) most-seatings) (Ok tt, loaded s i c) (Err (refusal Piece 5 NoSeatingsLeft refl refl), s))
+           (Err (refusal Piece 4 UnknownKind refl refl), s)
+
+  abbrev pub seat-at-seat : TrayState E → ℕ → Command E → Seat E → Result (Unit {0}) Refusal × TrayState E
+  seat-at-seat s i c Empty = admitted s i c
+  seat-at-seat s i c (Loaded c′) = (Err (refusal Piece 2 NotIdle refl refl), s)
+  seat-at-seat s i c (HeadRead t) = (Err (refusal Piece 2 NotIdle refl refl), s)
+  seat-at-seat s i c (CellRead t u) = (Err (refusal Piece 2 NotIdle refl refl), s)
+  seat-at-seat s i c (CellWritten t) = (Err (refusal Piece 2 NotIdle refl refl), s)
+  seat-at-seat s i c (NeighbourRead t x) = (Err (refusal Piece 2 NotIdle refl refl), s)
+  seat-at-seat s i c (Ended r) = (Err (refusal Piece 2 NotIdle refl refl), s)
+
+  -- a call of a worker is refused first of all if there is no such worker
+  abbrev pub if-worker : {R : Type 0} → TrayState E → ℕ → Result R Refusal × TrayState E → Result R Refusal × TrayState E
+  if-worker s i y = cond (ltb i (s .count)) y (Err (refusal Piece 1 NoSuchWorker refl refl), s)
+
+  abbrev pub seat-outcome : TrayState E → ℕ → Command E → Result (Unit {0}) Refusal × TrayState E
+  seat-outcome s i c = if-worker s i (seat-at-seat s i c (seat-at (s .seats) i))
+
+  abbrev pub clear-outcome : TrayState E → TrayState E
+  clear-outcome s = record { cells = s .cells; heads = s .heads; seats = filled (s .count) Empty (s .seats); seatings = s .seatings; room = s .room; count = s .count }
+
+  -- do strips of these lengths hold a tray?
+  abbrev pub enough : List (Cell E) → List (Head E) → List (Seat E) → Bool
+  enough cs hs ss = ltb 1 (length cs) && ltb 0 (length hs) && ltb 0 (length ss)
+
+module _ {E : Type 0} (e : ElementKind E) where
+  abbrev pub step-outcome : TrayState E → ℕ → Result StepAnswer Refusal × TrayState E
+  step-outcome s i = if-worker s i (accessed e s i (seat-at (s .seats) i))
+
+  abbrev pub take-at-seat : TrayState E → ℕ → Seat E → Result (Reply E) Refusal × TrayState E
+  take-at-seat s i Empty = (Err (refusal Piece 7 NothingToTake refl refl), s)
+  take-at-seat s i (Loaded c) = (Ok (reply StoodOff (e .blank)), with-seat s i Empty)
+  take-at-seat s i (HeadRead t) = (Err (refusal Piece 7 NothingToTake refl refl), s)
+  take-at-seat s i (CellRead t u) = (Err (refusal Piece 7 NothingToTake refl refl), s)
+  take-at-seat s i (CellWritten t) = (Err (refusal Piece 7 NothingToTake refl refl), s)
+  take-at-seat s i (NeighbourRead t x) = (Err (refusal Piece 7 NothingToTake refl refl), s)
+  take-at-seat s i (Ended r) = (Ok r, with-seat s i Empty)
+
+  abbrev pub take-outcome : TrayState E → ℕ → Result (Reply E) Refusal × TrayState E
+  take-outcome s i = if-worker s i (take-at-seat s i (seat-at (s .seats) i))
+
+  -- the cells of a new tray with k places: cell 0 is one tick behind
+  abbrev pub new-cells : ℕ → List (Cell E) → List (Cell E)
+  new-cells k cs = set (filled (k + 1) (record { element = e .blank; tick = pos 0 }) cs) 0 (record { element = e .blank; tick = negsuc 0 })
+
+  abbrev pub new-heads : List (Head E) → List (Head E)
+  new-heads hs = set hs 0 (record { index = 0; element = e .blank; tick = pos 0 })
+
+  -- a tray made in three strips; in strips that are too short, one without workers
+  abbrev pub made-tray : List (Cell E) → List (Head E) → List (Seat E) → TrayState E
+  made-tray cs hs ss =
+      cond (enough cs hs ss)
+        (record {
+          cells = new-cells (min (length cs - 1) 1024) cs; heads = new-heads hs; seats = filled (min (length ss) 16) Empty ss;
+          seatings = 0; room = min (length cs - 1) 1024; count = min (length ss) 16 })
+        (record { cells = cs; heads = hs; seats = ss; seatings = 0; room = 1; count = 0 })

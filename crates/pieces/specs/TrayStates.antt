@@ -1,0 +1,39 @@
+-- The whole state of a tray: its three strips, to their ends, and its own numbers.
+use mathlib.Core.List.{List, [], _∷_, _++_}
+use Prim.Native.Nat.{ℕ, zero, suc}
+use lib.ListN.{getD, set}
+use lib.IntN.{ℤ, pos}
+use Rattle.pieces.specs.declared.tray.records.Cell.{Cell}
+use Rattle.pieces.specs.declared.tray.records.Head.{Head}
+use Rattle.pieces.specs.declared.tray.records.Seat.{Seat}
+use Rattle.pieces.specs.declared.tray.records.Seat.the-variants.{Empty}
+
+-- the head lies in the first place of its strip; `room` is k, and `count` the number of workers
+pub record TrayState (E : Type 0) : Type 0 where
+  pub cells : List (Cell E)
+  pub heads : List (Head E)
+  pub seats : List (Seat E)
+  pub seatings : ℕ
+  pub room : ℕ
+  pub count : ℕ
+
+module _ {E : Type 0} where
+  -- what stands at a place of a strip; the blank is for a place past its end, which no worker reaches
+  abbrev pub cell-at : E → List (Cell E) → ℕ → Cell E
+  cell-at blank cs x = getD cs x (record { element = blank; tick = pos 0 })
+
+  abbrev pub head-of : E → List (Head E) → Head E
+  head-of blank hs = getD hs 0 (record { index = 0; element = blank; tick = pos 0 })
+
+  abbrev pub seat-at : List (Seat E) → ℕ → Seat E
+  seat-at ss i = getD ss i Empty
+
+  -- the state with other cells, another head, another seat of worker i
+  abbrev pub with-cells : TrayState E → List (Cell E) → TrayState E
+  with-cells s cs = record { cells = cs; heads = s .heads; seats = s .seats; seatings = s .seatings; room = s .room; count = s .count }
+
+  abbrev pub with-head : TrayState E → Head E → TrayState E
+  with-head s h = record { cells = s .cells; heads = set (s .heads) 0 h; seats = s .seats; seatings = s .seatings; room = s .room; count = s .count }
+
+  abbrev pub with-seat : TrayState E → ℕ → Seat E → TrayState E
+  with-seat s i q = record { cells = s .cells; heads = s .heads; seats = set (s .seats) i q; seatings = s .seatings; room = s .room; count = s .count }

@@ -1,0 +1,2 @@
+// The shared objects.
+pub mod tray;
