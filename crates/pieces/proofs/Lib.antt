@@ -1,1 +1,5 @@
 mod Filling
+mod Ticks
+mod Bounds
+mod Calls
+mod Keeping

@@ -6,3 +6,4 @@ pub mod TrayAccess
 pub mod TrayCalls
 pub mod TrayBounds
 pub mod TrayStrips
+pub mod Trays

@@ -23,7 +23,7 @@ use Rattle.pieces.specs.declared.tray.records.Head.{Head}
 use Rattle.pieces.specs.declared.tray.records.Seat.{Seat}
 use Rattle.pieces.specs.declared.tray.records.Seat.the-variants.{Empty, Loaded, HeadRead, CellRead, CellWritten, NeighbourRead, Ended}
 use Rattle.pieces.specs.TrayKinds.{tray-knows}
-use Rattle.pieces.specs.TrayStates.{TrayState, seat-at, with-seat}
+use Rattle.pieces.specs.TrayStates.{TrayState, seat-at, with-seat, with-seats}
 use Rattle.pieces.specs.TrayAccess.{accessed}
 
 -- what a call answers, and what it leaves, are what a function says
@@ -68,7 +68,7 @@ module _ {E : Type 0} where
   seat-outcome s i c = if-worker s i (seat-at-seat s i c (seat-at (s .seats) i))
 
   abbrev pub clear-outcome : TrayState E → TrayState E
-  clear-outcome s = record { cells = s .cells; heads = s .heads; seats = filled (s .count) Empty (s .seats); seatings = s .seatings; room = s .room; count = s .count }
+  clear-outcome s = with-seats s (filled (s .count) Empty (s .seats))
 
   -- do strips of these lengths hold a tray?
   abbrev pub enough : List (Cell E) → List (Head E) → List (Seat E) → Bool

@@ -28,12 +28,15 @@ module _ {E : Type 0} where
   abbrev pub seat-at : List (Seat E) → ℕ → Seat E
   seat-at ss i = getD ss i Empty
 
-  -- the state with other cells, another head, another seat of worker i
+  -- the state with other cells, another head, other seats, another seat of worker i
   abbrev pub with-cells : TrayState E → List (Cell E) → TrayState E
   with-cells s cs = record { cells = cs; heads = s .heads; seats = s .seats; seatings = s .seatings; room = s .room; count = s .count }
 
   abbrev pub with-head : TrayState E → Head E → TrayState E
   with-head s h = record { cells = s .cells; heads = set (s .heads) 0 h; seats = s .seats; seatings = s .seatings; room = s .room; count = s .count }
 
+  abbrev pub with-seats : TrayState E → List (Seat E) → TrayState E
+  with-seats s qs = record { cells = s .cells; heads = s .heads; seats = qs; seatings = s .seatings; room = s .room; count = s .count }
+
   abbrev pub with-seat : TrayState E → ℕ → Seat E → TrayState E
-  with-seat s i q = record { cells = s .cells; heads = s .heads; seats = set (s .seats) i q; seatings = s .seatings; room = s .room; count = s .count }
+  with-seat s i q = with-seats s (set (s .seats) i q)

@@ -5,7 +5,6 @@ ghost use Prim.Native.Nat.{ℕ, _+_, _-_, _<_, _≤_};
 ghost use lib.ListN.{length, getD, set};
 ghost use lib.IntN.{ℤ, pos, negsuc, _+ℤ_};
 ghost use lib.Signed.{_≤ℤ_};
-ghost use Rattle.elements.specs.Refusals.{refusal};
 ghost use Rattle.elements.specs.declared.refusals.Layer.the-variants.{Piece};
 ghost use Rattle.std.specs.declared.result.Result.the-variants.{Ok, Err};
 ghost use Rattle.pieces.specs.TrayKinds.{is-push, tray-kind-number};
@@ -13,7 +12,7 @@ ghost use Rattle.pieces.specs.TrayStates.{cell-at, head-of, seat-at};
 ghost use mathlib.Core.List.{List};
 ghost use Rattle.pieces.specs.declared.tray.records.Seat.the-variants.{Empty};
 ghost use Rattle.pieces.specs.TrayKinds.{tray-knows};
-ghost use Rattle.pieces.specs.TrayCalls.{filled, new-cells, new-heads};
+ghost use Rattle.pieces.specs.TrayCalls.{filled, new-cells, new-heads, enough};
 ghost use Rattle.pieces.specs.TrayAccess.{tick-eq, at-limit, settled-early, neighbour, limit-reply, done-reply, helps, helped-cells, next-of, unchanged, moved-head};
 
 use elements::commands::{Code, Command, Reply};
@@ -200,4 +199,18 @@ pub fn make_head<E: Element>(heads: &mut [Head<E>])
     ensures { λ _. ⌜ now (heads .exit) ≡ new-heads (E·Element .kind) (now (heads .entry)) ⌝ }
 {
     heads[0] = Head { index: 0, element: E::blank(), tick: 0 };
+}
+
+// Whether strips of these lengths hold a tray.
+pub fn hold_tray<E: Element>(cells: &[Cell<E>], heads: &[Head<E>], seats: &[Seat<E>]) -> bool
+    ensures { λ r. ⌜ r ≡ enough (now (cells .entry)) (now (heads .entry)) (now (seats .entry)) ⌝ }
+{
+    cells.len() > 1 && heads.len() > 0 && seats.len() > 0
+}
+
+// A refusal of a tray.
+pub fn refuse<T>(cause: Cause) -> Result<T, Refusal>
+    ensures { λ r. ⌜ r ≡ Err (record { layer = Piece; cause = cause }) ⌝ }
+{
+    Err(Refusal { layer: Layer::Piece, cause })
 }

@@ -8,14 +8,16 @@ ghost use lib.Signed.{_≤ℤ_};
 ghost use Rattle.std.specs.declared.result.Result.the-variants.{Ok, Err};
 ghost use Rattle.pieces.specs.TrayStates.{head-of, cell-at, seat-at};
 ghost use Rattle.pieces.specs.TrayAccess.{neighbour, next-of, accessed};
-ghost use Rattle.pieces.specs.TrayCalls.{Exactly};
+ghost use Rattle.pieces.specs.TrayBounds.{Bounded};
+ghost use Rattle.pieces.specs.TrayCalls.{Exactly, seat-outcome, step-outcome, take-outcome, clear-outcome, made-tray, loaded, admitted};
 ghost use Rattle.pieces.specs.TrayStrips.{state-of};
 ghost use Rattle.pieces.specs.declared.tray.records.Seat.the-variants.{Loaded, HeadRead, CellRead, CellWritten, NeighbourRead};
 
 use elements::answers::StepAnswer;
-use elements::commands::Command;
+use elements::commands::{Code, Command, Reply};
 use elements::element::Element;
-use crate::tray::accesses::{done_reply, limit_reply, limits, read_element, read_head, read_neighbour, read_seat, write_cell, write_head, write_seat};
+use elements::refusals::{Cause, Refusal};
+use crate::tray::accesses::{done_reply, empty_seats, hold_tray, knows, limit_reply, limits, make_cells, make_head, read_element, read_head, read_neighbour, read_seat, refuse, write_cell, write_head, write_seat};
 use crate::tray::records::{Cell, Head, Next, Seat, Try};
 
 #[derive(Drop)]
@@ -125,5 +127,107 @@ impl<'a, E: Element> Strips<'a, E> {
             write_seat(self.seats, worker, Seat::Loaded(attempt.command));
             StepAnswer::StoodOff
         }
+    }
+
+    // One access of the worker's try.
+    pub fn step(&mut self, worker: usize) -> Result<StepAnswer, Refusal>
+        requires { ⌜ Bounded (E·Element .kind .blank) (state-of (now self)) ⌝ }
+        ensures { λ r. ⌜ Exactly r (state-of (now (self .exit))) (step-outcome (E·Element .kind) (state-of (now (self .entry))) worker) ⌝ }
+    {
+        if worker >= self.count {
+            return refuse(Cause::NoSuchWorker);
+        }
+        match self.seat_of(worker) {
+            Seat::Loaded(command) => Ok(self.access_head(worker, command)),
+            Seat::HeadRead(attempt) => Ok(self.access_cell(worker, attempt)),
+            Seat::CellRead(attempt, element) => Ok(self.help(worker, attempt, element)),
+            Seat::CellWritten(attempt) => Ok(self.access_neighbour(worker, attempt)),
+            Seat::NeighbourRead(attempt, next) => Ok(self.move_head(worker, attempt, next)),
+            Seat::Empty | Seat::Ended(_) => refuse(Cause::NothingToStep),
+        }
+    }
+
+    fn load(&mut self, worker: usize, command: Command<E>)
+        requires seat { ⌜ worker < length (now (now self .seats)) ⌝ }
+        requires seatings { ⌜ now self .seatings < 4000000000 ⌝ }
+        ensures { λ _. ⌜ state-of (now (self .exit)) ≡ loaded (state-of (now (self .entry))) worker command ⌝ }
+    {
+        write_seat(self.seats, worker, Seat::Loaded(command));
+        self.seatings += 1;
+    }
+
+    fn admit(&mut self, worker: usize, command: Command<E>) -> Result<(), Refusal>
+        requires { ⌜ worker < length (now (now self .seats)) ⌝ }
+        ensures { λ r. ⌜ Exactly r (state-of (now (self .exit))) (admitted (state-of (now (self .entry))) worker command) ⌝ }
+    {
+        if !knows(command.kind) {
+            return refuse(Cause::UnknownKind);
+        }
+        if self.seatings >= 4_000_000_000 {
+            return refuse(Cause::NoSeatingsLeft);
+        }
+        self.load(worker, command);
+        Ok(())
+    }
+
+    // Seats a command.
+    pub fn seat(&mut self, worker: usize, command: Command<E>) -> Result<(), Refusal>
+        requires { ⌜ now self .count ≤ length (now (now self .seats)) ⌝ }
+        ensures { λ r. ⌜ Exactly r (state-of (now (self .exit))) (seat-outcome (state-of (now (self .entry))) worker command) ⌝ }
+    {
+        if worker >= self.count {
+            return refuse(Cause::NoSuchWorker);
+        }
+        match self.seat_of(worker) {
+            Seat::Empty => self.admit(worker, command),
+            _ => refuse(Cause::NotIdle),
+        }
+    }
+
+    // Takes a reply, or a command that no try has begun on.
+    pub fn take(&mut self, worker: usize) -> Result<Reply<E>, Refusal>
+        requires { ⌜ now self .count ≤ length (now (now self .seats)) ⌝ }
+        ensures { λ r. ⌜ Exactly r (state-of (now (self .exit))) (take-outcome (E·Element .kind) (state-of (now (self .entry))) worker) ⌝ }
+    {
+        if worker >= self.count {
+            return refuse(Cause::NoSuchWorker);
+        }
+        let reply = match self.seat_of(worker) {
+            Seat::Loaded(_) => Reply { code: Code::StoodOff.number(), element: E::blank() },
+            Seat::Ended(reply) => reply,
+            _ => return refuse(Cause::NothingToTake),
+        };
+        write_seat(self.seats, worker, Seat::Empty);
+        Ok(reply)
+    }
+
+    // Empties every seat.
+    pub fn clear(&mut self)
+        requires { ⌜ now self .count ≤ length (now (now self .seats)) ⌝ }
+        ensures { λ _. ⌜ state-of (now (self .exit)) ≡ clear-outcome (state-of (now (self .entry))) ⌝ }
+    {
+        let count = self.count;
+        empty_seats(self.seats, count);
+    }
+
+    pub fn workers(&self) -> usize
+        ensures { λ r. ⌜ r ≡ now (self .entry) .count ⌝ }
+    {
+        self.count
+    }
+
+    // A tray in three strips. Where they are too short for one, it has no worker, and nothing is written.
+    pub fn new(cells: &'a mut [Cell<E>], heads: &'a mut [Head<E>], seats: &'a mut [Seat<E>]) -> Strips<'a, E>
+        ensures { λ r. ⌜ state-of r ≡ made-tray (E·Element .kind) (now (cells .entry)) (now (heads .entry)) (now (seats .entry)) ⌝ }
+    {
+        if !hold_tray(cells, heads, seats) {
+            return Strips { cells, heads, seats, seatings: 0, room: 1, count: 0 };
+        }
+        let room = (cells.len() - 1).min(1024);
+        let count = seats.len().min(16);
+        make_cells(cells, room);
+        make_head(heads);
+        empty_seats(seats, count);
+        Strips { cells, heads, seats, seatings: 0, room, count }
     }
 }
