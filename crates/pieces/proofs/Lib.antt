@@ -2,4 +2,4 @@ mod Filling
 mod Ticks
 mod Bounds
 mod Calls
-mod Keeping
+pub mod Keeping

@@ -4,6 +4,7 @@ pub mod OrdinaryTally
 pub mod TrayStates
 pub mod TrayAccess
 pub mod TrayCalls
+pub mod TrayShown
 pub mod TrayBounds
 pub mod TrayStrips
 pub mod Trays

@@ -53,6 +53,14 @@ pub fn read_head<E: Element>(heads: &[Head<E>]) -> Head<E>
     Head { index: heads[0].index, element: heads[0].element, tick: heads[0].tick }
 }
 
+// Reads a whole cell: no access of a try, but to show it.
+pub fn read_cell<E: Element>(cells: &[Cell<E>], index: usize) -> Cell<E>
+    requires { ⌜ index < length (now cells) ⌝ }
+    ensures { λ r. ⌜ r ≡ cell-at (E·Element .kind .blank) (now (cells .entry)) index ⌝ }
+{
+    cells[index]
+}
+
 // Access 2: reads the element of a cell.
 pub fn read_element<E: Element>(cells: &[Cell<E>], index: usize) -> E
     requires { ⌜ index < length (now cells) ⌝ }

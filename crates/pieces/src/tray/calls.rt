@@ -1,6 +1,7 @@
 // The calls of a tray. Each says exactly what it answers and what it leaves, refused or not.
 ghost use mathlib.Core.Path.{_≡_};
 ghost use Rattle.pieces.specs.TrayCalls.{Exactly, seat-outcome, step-outcome, take-outcome, clear-outcome, made-tray};
+ghost use Rattle.pieces.specs.TrayShown.{shown-head, shown-cell, shown-seat};
 ghost use Rattle.pieces.specs.Trays.{tray-state};
 
 use elements::answers::StepAnswer;
@@ -25,6 +26,28 @@ impl<'a, E: Element> Tray<'a, E> {
         ensures { λ r. ⌜ r ≡ tray-state (now (self .entry)) .count ⌝ }
     {
         self.strips.workers()
+    }
+
+    // The head as it is now, in a tray with workers. This and the next two are for whoever shows a tray; they are no
+    // accesses of a try.
+    pub fn head(&self) -> Option<Head<E>>
+        ensures { λ r. ⌜ r ≡ shown-head (E·Element .kind .blank) (tray-state (now (self .entry))) ⌝ }
+    {
+        self.strips.head()
+    }
+
+    // One of its cells as it is now, from 0 to the number of places.
+    pub fn cell(&self, index: usize) -> Option<Cell<E>>
+        ensures { λ r. ⌜ r ≡ shown-cell (E·Element .kind .blank) (tray-state (now (self .entry))) index ⌝ }
+    {
+        self.strips.cell(index)
+    }
+
+    // A worker's seat as it is now.
+    pub fn seat_of(&self, worker: usize) -> Option<Seat<E>>
+        ensures { λ r. ⌜ r ≡ shown-seat (tray-state (now (self .entry))) worker ⌝ }
+    {
+        self.strips.seat_of(worker)
     }
 
     // Loads the worker's empty seat with a command.

@@ -10,6 +10,7 @@ ghost use Rattle.pieces.specs.TrayStates.{head-of, cell-at, seat-at};
 ghost use Rattle.pieces.specs.TrayAccess.{neighbour, next-of, accessed};
 ghost use Rattle.pieces.specs.TrayBounds.{Bounded};
 ghost use Rattle.pieces.specs.TrayCalls.{Exactly, seat-outcome, step-outcome, take-outcome, clear-outcome, made-tray, loaded, admitted};
+ghost use Rattle.pieces.specs.TrayShown.{shown-head, shown-cell, shown-seat};
 ghost use Rattle.pieces.specs.TrayStrips.{state-of};
 ghost use Rattle.pieces.specs.declared.tray.records.Seat.the-variants.{Loaded, HeadRead, CellRead, CellWritten, NeighbourRead};
 
@@ -17,7 +18,7 @@ use elements::answers::StepAnswer;
 use elements::commands::{Code, Command, Reply};
 use elements::element::Element;
 use elements::refusals::{Cause, Refusal};
-use crate::tray::accesses::{done_reply, empty_seats, hold_tray, knows, limit_reply, limits, make_cells, make_head, read_element, read_head, read_neighbour, read_seat, refuse, write_cell, write_head, write_seat};
+use crate::tray::accesses::{done_reply, empty_seats, hold_tray, knows, limit_reply, limits, make_cells, make_head, read_cell, read_element, read_head, read_neighbour, read_seat, refuse, write_cell, write_head, write_seat};
 use crate::tray::records::{Cell, Head, Next, Seat, Try};
 
 #[derive(Drop)]
@@ -31,7 +32,7 @@ pub struct Strips<'a, E: Element> {
 }
 
 impl<'a, E: Element> Strips<'a, E> {
-    fn seat_of(&self, worker: usize) -> Seat<E>
+    fn occupant(&self, worker: usize) -> Seat<E>
         requires { ⌜ worker < length (now (now self .seats)) ⌝ }
         ensures { λ r. ⌜ r ≡ seat-at (now (now (self .entry) .seats)) worker ⌝ }
     {
@@ -137,7 +138,7 @@ impl<'a, E: Element> Strips<'a, E> {
         if worker >= self.count {
             return refuse(Cause::NoSuchWorker);
         }
-        match self.seat_of(worker) {
+        match self.occupant(worker) {
             Seat::Loaded(command) => Ok(self.access_head(worker, command)),
             Seat::HeadRead(attempt) => Ok(self.access_cell(worker, attempt)),
             Seat::CellRead(attempt, element) => Ok(self.help(worker, attempt, element)),
@@ -178,7 +179,7 @@ impl<'a, E: Element> Strips<'a, E> {
         if worker >= self.count {
             return refuse(Cause::NoSuchWorker);
         }
-        match self.seat_of(worker) {
+        match self.occupant(worker) {
             Seat::Empty => self.admit(worker, command),
             _ => refuse(Cause::NotIdle),
         }
@@ -192,7 +193,7 @@ impl<'a, E: Element> Strips<'a, E> {
         if worker >= self.count {
             return refuse(Cause::NoSuchWorker);
         }
-        let reply = match self.seat_of(worker) {
+        let reply = match self.occupant(worker) {
             Seat::Loaded(_) => Reply { code: Code::StoodOff.number(), element: E::blank() },
             Seat::Ended(reply) => reply,
             _ => return refuse(Cause::NothingToTake),
@@ -214,6 +215,27 @@ impl<'a, E: Element> Strips<'a, E> {
         ensures { λ r. ⌜ r ≡ now (self .entry) .count ⌝ }
     {
         self.count
+    }
+
+    pub fn head(&self) -> Option<Head<E>>
+        requires { ⌜ Bounded (E·Element .kind .blank) (state-of (now self)) ⌝ }
+        ensures { λ r. ⌜ r ≡ shown-head (E·Element .kind .blank) (state-of (now (self .entry))) ⌝ }
+    {
+        if self.count > 0 { Some(self.top()) } else { None }
+    }
+
+    pub fn cell(&self, index: usize) -> Option<Cell<E>>
+        requires { ⌜ Bounded (E·Element .kind .blank) (state-of (now self)) ⌝ }
+        ensures { λ r. ⌜ r ≡ shown-cell (E·Element .kind .blank) (state-of (now (self .entry))) index ⌝ }
+    {
+        if self.count > 0 && index <= self.room { Some(read_cell(self.cells, index)) } else { None }
+    }
+
+    pub fn seat_of(&self, worker: usize) -> Option<Seat<E>>
+        requires { ⌜ now self .count ≤ length (now (now self .seats)) ⌝ }
+        ensures { λ r. ⌜ r ≡ shown-seat (state-of (now (self .entry))) worker ⌝ }
+    {
+        if worker < self.count { Some(self.occupant(worker)) } else { None }
     }
 
     // A tray in three strips. Where they are too short for one, it has no worker, and nothing is written.

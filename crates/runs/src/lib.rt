@@ -1,0 +1,3 @@
+// Runs of the shared objects: any list of calls of a tray, and the run of the held feeder.
+pub mod events;
+pub mod play;
