@@ -1,1 +1,3 @@
 mod Playing
+mod Solo
+mod Feeding

@@ -1,3 +1,4 @@
 // Runs of the shared objects: any list of calls of a tray, and the run of the held feeder.
 pub mod events;
+pub mod held_feeder;
 pub mod play;
