@@ -2,8 +2,9 @@
 ghost use mathlib.Core.Path.{_≡_};
 ghost use mathlib.Core.Bool.{Bool, true};
 ghost use Rattle.elements.specs.Kinds.{ElementKind, bin-kind, amount-kind, slip-kind};
-
-use crate::kinds::{Amount, Bin, Slip};
+use crate::kinds::Amount;
+use crate::kinds::Bin;
+use crate::kinds::Slip;
 
 // What a shared object may hold: it has a blank value, and tells whether two elements are the same.
 pub trait Element: Copy {
@@ -46,7 +47,11 @@ pub impl Element for Slip as SlipElement {
     ghost kind = { slip-kind };
 
     fn blank() -> Slip {
-        Slip { batch: 0, total: 0, station: 0 }
+        Slip {
+            batch: 0,
+            total: 0,
+            station: 0,
+        }
     }
 
     fn same(self, other: Slip) -> bool {

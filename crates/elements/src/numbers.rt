@@ -4,10 +4,10 @@ ghost use mathlib.Core.Bool.{Bool};
 ghost use Rattle.elements.specs.Answers.{answer-number};
 ghost use Rattle.elements.specs.Codes.{code-number};
 ghost use Rattle.elements.specs.Refusals.{cause-number, asks};
-
 use crate::answers::StepAnswer;
 use crate::commands::Code;
-use crate::refusals::{Cause, Layer};
+use crate::refusals::Cause;
+use crate::refusals::Layer;
 
 impl StepAnswer {
     pub fn number(self) -> u8

@@ -67,8 +67,12 @@ module _ {E : Type 0} (blank : E) (s : TrayState E) (b : Bounded blank s) (i : �
 
   counted : (q : Seat E) → after q + unsettled (s .room) (seat-at (s .seats) i) ≡ before + unsettled (s .room) q
   counted q =
-      omega (arith, ap (all-unsettled (s .room)) (take-of-set (s .count) (s .seats) i q), unsettled-set (s .room) (take (s .count) (s .seats)) i q within,
-        ap (unsettled (s .room)) (getD-take (s .count) (s .seats) i Empty l))
+      omega (
+        arith,
+        ap (all-unsettled (s .room)) (take-of-set (s .count) (s .seats) i q),
+        unsettled-set (s .room) (take (s .count) (s .seats)) i q within,
+        ap (unsettled (s .room)) (getD-take (s .count) (s .seats) i Empty l),
+      )
 
   -- worker i has another seat, in a tray with other cells, another head and more seatings
   reseated : (cs : List (Cell E)) (hs : List (Head E)) (q : Seat E) (g : ℕ)
@@ -83,26 +87,29 @@ module _ {E : Type 0} (blank : E) (s : TrayState E) (b : Bounded blank s) (i : �
         room-small = b .room-small;
         few = few;
         held = λ _.
-          record {
-            heads-long = omega (arith, held .heads-long);
-            cells-long = omega (arith, held .cells-long);
-            some-room = held .some-room;
-            top = top;
-            cells-ok = cells;
-            head-ok = head;
-            seats-ok = λ j m. elim (cases-eq j i) [
-                inl e ↦ subst (λ z. SeatOk (s .room) (after q) g z)
-                  (sym (ap (seat-at (set (s .seats) i q)) e ∙ getD-set-same (s .seats) i q Empty (omega (arith, b .seats-long)))) ok
-              | inr n ↦ subst (λ z. SeatOk (s .room) (after q) g z)
-                  (sym (getD-set-other (s .seats) i j q Empty n)) (seat-kept before (s .seatings) (after q) g more (s .room) _ (held .seats-ok j m)) ] } }
+            record {
+              heads-long = omega (arith, held .heads-long);
+              cells-long = omega (arith, held .cells-long);
+              some-room = held .some-room;
+              top = top;
+              cells-ok = cells;
+              head-ok = head;
+              seats-ok = λ j m. elim (cases-eq j i) [
+                | inl e ↦ subst (λ z. SeatOk (s .room) (after q) g z)
+                    (sym (ap (seat-at (set (s .seats) i q)) e ∙ getD-set-same (s .seats) i q Empty (omega (arith, b .seats-long)))) ok
+                | inr n ↦ subst (λ z. SeatOk (s .room) (after q) g z)
+                    (sym (getD-set-other (s .seats) i j q Empty n)) (seat-kept before (s .seatings) (after q) g more (s .room) _ (held .seats-ok j m))
+              ];
+            };
+      }
 
   -- only the seat is another
   quiet : (q : Seat E) (g : ℕ) → after q + s .seatings ≤ before + g → g ≤ most-seatings → SeatOk (s .room) (after q) g q
       → Bounded blank (record { cells = s .cells; heads = s .heads; seats = set (s .seats) i q; seatings = g; room = s .room; count = s .count })
   quiet q g more few ok =
       reseated (s .cells) (s .heads) q g more few refl refl (held .top)
-        (λ y m. tick-kept before (s .seatings) (after q) g more (held .cells-ok y m))
-        (tick-kept before (s .seatings) (after q) g more (held .head-ok)) ok
+      (λ y m. tick-kept before (s .seatings) (after q) g more (held .cells-ok y m))
+      (tick-kept before (s .seatings) (after q) g more (held .head-ok)) ok
 
   -- what a seat that is no more unsettled than before leaves
   fewer : (q q′ : Seat E) → seat-at (s .seats) i ≡ q → unsettled (s .room) q′ ≤ unsettled (s .room) q → after q′ + s .seatings ≤ before + s .seatings
@@ -115,20 +122,28 @@ module _ {E : Type 0} (blank : E) (s : TrayState E) (b : Bounded blank s) (i : �
     where
       within-cells : t .head .index < length (s .cells)
       within-cells = omega (arith, held .cells-long, try .index)
-      go : (h : Bool) → Bounded blank (record { cells = cond h (set (s .cells) (t .head .index) (record { element = t .head .element; tick = t .head .tick })) (s .cells);
-          heads = s .heads; seats = set (s .seats) i q; seatings = s .seatings; room = s .room; count = s .count })
+
+      go : (h : Bool) → Bounded blank (record {
+        cells = cond h (set (s .cells) (t .head .index) (record { element = t .head .element; tick = t .head .tick })) (s .cells);
+        heads = s .heads;
+        seats = set (s .seats) i q;
+        seatings = s .seatings;
+        room = s .room;
+        count = s .count;
+      })
       go true =
           reseated (set (s .cells) (t .head .index) (record { element = t .head .element; tick = t .head .tick })) (s .heads) q (s .seatings) more (b .few)
-            (length-set (s .cells) (t .head .index) _) refl (held .top)
-            (λ y m. elim (cases-eq y (t .head .index)) [
-                inl f ↦ subst (λ z. TickOk (after q) (s .seatings) (z .tick))
-                  (sym (ap (cell-at blank (set (s .cells) (t .head .index) (record { element = t .head .element; tick = t .head .tick }))) f
-                    ∙ getD-set-same (s .cells) (t .head .index) (record { element = t .head .element; tick = t .head .tick }) _ within-cells))
-                  (tick-kept before (s .seatings) (after q) (s .seatings) more (try .tick))
-              | inr n ↦ subst (λ z. TickOk (after q) (s .seatings) (z .tick))
-                  (sym (getD-set-other (s .cells) (t .head .index) y (record { element = t .head .element; tick = t .head .tick }) _ n))
-                  (tick-kept before (s .seatings) (after q) (s .seatings) more (held .cells-ok y m)) ])
-            (tick-kept before (s .seatings) (after q) (s .seatings) more (held .head-ok)) ok
+          (length-set (s .cells) (t .head .index) _) refl (held .top)
+          (λ y m. elim (cases-eq y (t .head .index)) [
+            | inl f ↦ subst (λ z. TickOk (after q) (s .seatings) (z .tick))
+                (sym (ap (cell-at blank (set (s .cells) (t .head .index) (record { element = t .head .element; tick = t .head .tick }))) f
+                ∙ getD-set-same (s .cells) (t .head .index) (record { element = t .head .element; tick = t .head .tick }) _ within-cells))
+                (tick-kept before (s .seatings) (after q) (s .seatings) more (try .tick))
+            | inr n ↦ subst (λ z. TickOk (after q) (s .seatings) (z .tick))
+                (sym (getD-set-other (s .cells) (t .head .index) y (record { element = t .head .element; tick = t .head .tick }) _ n))
+                (tick-kept before (s .seatings) (after q) (s .seatings) more (held .cells-ok y m))
+          ])
+          (tick-kept before (s .seatings) (after q) (s .seatings) more (held .head-ok)) ok
       go false = quiet q (s .seatings) more (b .few) ok
 
   -- the head moves, and one seat more has settled
@@ -139,10 +154,10 @@ module _ {E : Type 0} (blank : E) (s : TrayState E) (b : Bounded blank s) (i : �
       let more : after q + s .seatings ≤ before + s .seatings = omega arith in
       let top : head-of blank (set (s .heads) 0 (moved-head e t x)) ≡ moved-head e t x = getD-set-same (s .heads) 0 (moved-head e t x) _ (held .heads-long) in
       reseated (s .cells) (set (s .heads) 0 (moved-head e t x)) q (s .seatings) more (b .few) refl (length-set (s .heads) 0 _)
-        (subst (λ h. h .index ≤ s .room) (sym top) (goes (s .room) t (o .0 .index) (o .1) .0))
-        (λ y m. tick-kept before (s .seatings) (after q) (s .seatings) more (held .cells-ok y m))
-        (subst (λ h. TickOk (after q) (s .seatings) (h .tick)) (sym top) (tick-up before (s .seatings) (after q) less (x .tick) (o .2)))
-        ok
+      (subst (λ h. h .index ≤ s .room) (sym top) (goes (s .room) t (o .0 .index) (o .1) .0))
+      (λ y m. tick-kept before (s .seatings) (after q) (s .seatings) more (held .cells-ok y m))
+      (subst (λ h. TickOk (after q) (s .seatings) (h .tick)) (sym top) (tick-up before (s .seatings) (after q) less (x .tick) (o .2)))
+      ok
 
   -- an access of worker i, whose seat is q
   access-bounded : (e : ElementKind E) → e .blank ≡ blank → (q : Seat E) → seat-at (s .seats) i ≡ q → SeatOk (s .room) before (s .seatings) q
@@ -151,33 +166,41 @@ module _ {E : Type 0} (blank : E) (s : TrayState E) (b : Bounded blank s) (i : �
   access-bounded e f (Loaded c) at o =
       let more = fewer (Loaded c) (HeadRead (record { command = c; head = head-of (e .blank) (s .heads) })) at (at-most-one (at-limit (s .room) (head-of (e .blank) (s .heads)) c)) in
       quiet _ (s .seatings) more (b .few)
-        (record {
-          index = subst (λ d. head-of d (s .heads) .index ≤ s .room) (sym f) (held .top);
-          tick = tick-kept before (s .seatings) _ (s .seatings) more (subst (λ d. TickOk before (s .seatings) (head-of d (s .heads) .tick)) (sym f) (held .head-ok)) })
+      (record {
+        index = subst (λ d. head-of d (s .heads) .index ≤ s .room) (sym f) (held .top);
+        tick = tick-kept before (s .seatings) _ (s .seatings) more (subst (λ d. TickOk before (s .seatings) (head-of d (s .heads) .tick)) (sym f) (held .head-ok));
+      })
   access-bounded e f (HeadRead t) at o =
       let more = fewer (HeadRead t) (CellRead t (cell-at (e .blank) (s .cells) (t .head .index) .element)) at (le-refl (cond (settled-early (s .room) t) 0 1)) in
       quiet _ (s .seatings) more (b .few) (try-kept before (s .seatings) _ (s .seatings) more o)
   access-bounded e f (CellRead t u) at o = go (settled-early (s .room) t) refl
     where
       go : (y : Bool) → settled-early (s .room) t ≡ y
-          → Bounded blank (record { cells = helped-cells e (s .cells) t u; heads = s .heads;
-              seats = set (s .seats) i (cond y (Ended (limit-reply e (t .command))) (CellWritten t)); seatings = s .seatings; room = s .room; count = s .count })
+          → Bounded blank (record {
+            cells = helped-cells e (s .cells) t u;
+            heads = s .heads;
+            seats = set (s .seats) i (cond y (Ended (limit-reply e (t .command))) (CellWritten t));
+            seatings = s .seatings;
+            room = s .room;
+            count = s .count;
+          })
       go true y = helped e t u _ (fewer (CellRead t u) (Ended (limit-reply e (t .command))) at zero-le) o tt
       go false y =
           let more = fewer (CellRead t u) (CellWritten t) at (omega (arith, ap (λ z. cond {A = ℕ} z 0 1) y)) in
           helped e t u _ more o (try-kept before (s .seatings) _ (s .seatings) more o, y)
   access-bounded e f (CellWritten t) at o =
       let more = fewer (CellWritten t) (NeighbourRead t (next-of e (s .cells) t)) at (le-refl 1) in
-      quiet _ (s .seatings) more (b .few)
-        ( try-kept before (s .seatings) _ (s .seatings) more (o .0)
-        , o .1
-        , tick-kept before (s .seatings) _ (s .seatings) more
+      quiet _ (s .seatings) more (b .few) (
+        try-kept before (s .seatings) _ (s .seatings) more (o .0),
+        o .1,
+        tick-kept before (s .seatings) _ (s .seatings) more
             (subst (λ d. TickOk before (s .seatings) (cell-at d (s .cells) (neighbour t) .tick)) (sym f)
-              (held .cells-ok (neighbour t) (goes (s .room) t (o .0 .index) (o .1) .0))))
+            (held .cells-ok (neighbour t) (goes (s .room) t (o .0 .index) (o .1) .0))),
+      )
   access-bounded e f (NeighbourRead t x) at o =
       by-test blank (unchanged e (head-of (e .blank) (s .heads)) t) _ _
-        (λ _. moved e t x (Ended (done-reply e t)) (omega (arith, counted (Ended (done-reply e t)), ap (unsettled (s .room)) at)) o tt)
-        (λ _. quiet (Loaded (t .command)) (s .seatings) (fewer (NeighbourRead t x) (Loaded (t .command)) at (le-refl 1)) (b .few) tt)
+      (λ _. moved e t x (Ended (done-reply e t)) (omega (arith, counted (Ended (done-reply e t)), ap (unsettled (s .room)) at)) o tt)
+      (λ _. quiet (Loaded (t .command)) (s .seatings) (fewer (NeighbourRead t x) (Loaded (t .command)) at (le-refl 1)) (b .few) tt)
   access-bounded e f (Ended r) at o = b
 
   -- taking from a seat
@@ -194,10 +217,10 @@ module _ {E : Type 0} (blank : E) (s : TrayState E) (b : Bounded blank s) (i : �
   seat-bounded-at : (c : Command E) (q : Seat E) → seat-at (s .seats) i ≡ q → Bounded blank (seat-at-seat s i c q .1)
   seat-bounded-at c Empty at =
       by-test blank (tray-knows (c .kind)) _ _
-        (λ _. by-test blank (ltb (s .seatings) most-seatings) _ _
-          (λ f. quiet (Loaded c) (s .seatings + 1) (omega (arith, counted (Loaded c), ap (unsettled (s .room)) at)) (omega (arith, ltb-true (s .seatings) most-seatings f)) tt)
-          (λ _. b))
-        (λ _. b)
+      (λ _. by-test blank (ltb (s .seatings) most-seatings) _ _
+      (λ f. quiet (Loaded c) (s .seatings + 1) (omega (arith, counted (Loaded c), ap (unsettled (s .room)) at)) (omega (arith, ltb-true (s .seatings) most-seatings f)) tt)
+      (λ _. b))
+      (λ _. b)
   seat-bounded-at c (Loaded c′) at = b
   seat-bounded-at c (HeadRead t) at = b
   seat-bounded-at c (CellRead t u) at = b
@@ -213,19 +236,19 @@ module _ {E : Type 0} (blank : E) (s : TrayState E) (b : Bounded blank s) where
   pub seat-bounded : (i : ℕ) (c : Command E) → Bounded blank (seat-outcome s i c .1)
   seat-bounded i c =
       by-test blank (ltb i (s .count)) _ _
-        (λ f. seat-bounded-at blank s b i (ltb-true i (s .count) f) c (seat-at (s .seats) i) refl) (λ _. b)
+      (λ f. seat-bounded-at blank s b i (ltb-true i (s .count) f) c (seat-at (s .seats) i) refl) (λ _. b)
 
   pub step-bounded : (e : ElementKind E) → e .blank ≡ blank → (i : ℕ) → Bounded blank (step-outcome e s i .1)
   step-bounded e f i =
       by-test blank (ltb i (s .count)) _ _
-        (λ g. let l : i < s .count = ltb-true i (s .count) g in
-          access-bounded blank s b i l e f (seat-at (s .seats) i) refl (held blank s b i l .seats-ok i l))
-        (λ _. b)
+      (λ g. let l : i < s .count = ltb-true i (s .count) g in
+      access-bounded blank s b i l e f (seat-at (s .seats) i) refl (held blank s b i l .seats-ok i l))
+      (λ _. b)
 
   pub take-bounded : (e : ElementKind E) (i : ℕ) → Bounded blank (take-outcome e s i .1)
   take-bounded e i =
       by-test blank (ltb i (s .count)) _ _
-        (λ f. take-bounded-at blank s b i (ltb-true i (s .count) f) e (seat-at (s .seats) i) refl) (λ _. b)
+      (λ f. take-bounded-at blank s b i (ltb-true i (s .count) f) e (seat-at (s .seats) i) refl) (λ _. b)
 
   abbrev left : ℕ
   left = all-unsettled (s .room) (take (s .count) (filled (s .count) Empty (s .seats)))
@@ -238,16 +261,18 @@ module _ {E : Type 0} (blank : E) (s : TrayState E) (b : Bounded blank s) where
         room-small = b .room-small;
         few = b .few;
         held = λ some.
-          let h = b .held some in
-          let more : left + s .seatings ≤ all-unsettled (s .room) (take (s .count) (s .seats)) + s .seatings = omega arith in
-          record {
-            heads-long = h .heads-long;
-            cells-long = h .cells-long;
-            some-room = h .some-room;
-            top = h .top;
-            cells-ok = λ y m. tick-kept _ _ _ _ more (h .cells-ok y m);
-            head-ok = tick-kept _ _ _ _ more (h .head-ok);
-            seats-ok = λ j l. subst (λ q. SeatOk (s .room) left (s .seatings) q) (sym (getD-filled (s .count) Empty (s .seats) j Empty l)) tt } }
+            let h = b .held some in
+            let more : left + s .seatings ≤ all-unsettled (s .room) (take (s .count) (s .seats)) + s .seatings = omega arith in
+            record {
+              heads-long = h .heads-long;
+              cells-long = h .cells-long;
+              some-room = h .some-room;
+              top = h .top;
+              cells-ok = λ y m. tick-kept _ _ _ _ more (h .cells-ok y m);
+              head-ok = tick-kept _ _ _ _ more (h .head-ok);
+              seats-ok = λ j l. subst (λ q. SeatOk (s .room) left (s .seatings) q) (sym (getD-filled (s .count) Empty (s .seats) j Empty l)) tt;
+            };
+      }
 
 -- what strips that hold a tray have
 pub tray-held : {E : Type 0} (cs : List (Cell E)) (hs : List (Head E)) (ss : List (Seat E)) → enough cs hs ss ≡ true
@@ -284,12 +309,13 @@ module _ {E : Type 0} (blank : E) (e : ElementKind E) (f : e .blank ≡ blank) (
 
     cells-fit : (y : ℕ) → y ≤ k → TickOk 0 0 (cell-at blank (new-cells e k cs) y .tick)
     cells-fit y m = elim (cases-eq y 0) [
-        inl z ↦ subst (λ c. TickOk 0 0 (c .tick))
+      | inl z ↦ subst (λ c. TickOk 0 0 (c .tick))
           (sym (ap (cell-at blank (new-cells e k cs)) z ∙ getD-set-same (filled (k + 1) other cs) 0 zeroth _ (omega (arith, long))))
           (record { low = omega (arith, ints); high = omega (arith, ints) })
       | inr z ↦ subst (λ c. TickOk 0 0 (c .tick))
           (sym (getD-set-other (filled (k + 1) other cs) 0 y zeroth _ z ∙ getD-filled (k + 1) other cs y _ (omega arith)))
-          (record { low = omega (arith, ints); high = omega (arith, ints) }) ]
+          (record { low = omega (arith, ints); high = omega (arith, ints) })
+    ]
 
     abbrev none : ℕ
     none = all-unsettled k (take n (filled n Empty ss))
@@ -302,21 +328,23 @@ module _ {E : Type 0} (blank : E) (e : ElementKind E) (f : e .blank ≡ blank) (
           room-small = omega arith;
           few = zero-le;
           held = λ _.
-            record {
-              heads-long = omega (arith, length-set hs 0 (record { index = 0; element = e .blank; tick = pos 0 }));
-              cells-long = omega (arith, long, length-set (filled (k + 1) other cs) 0 zeroth);
-              some-room = omega arith;
-              top = subst (λ h. h .index ≤ k) (sym head-is) zero-le;
-              cells-ok = λ y m. subst (λ p. TickOk p 0 (cell-at blank (new-cells e k cs) y .tick)) z (cells-fit y m);
-              head-ok = subst (λ p. TickOk p 0 (head-of blank (new-heads e hs) .tick)) z
-                (subst (λ h. TickOk 0 0 (h .tick)) (sym head-is) (record { low = omega (arith, ints); high = omega (arith, ints) }));
-              seats-ok = λ j l. subst (λ q. SeatOk k none 0 q) (sym (getD-filled n Empty ss j Empty l)) tt } }
+              record {
+                heads-long = omega (arith, length-set hs 0 (record { index = 0; element = e .blank; tick = pos 0 }));
+                cells-long = omega (arith, long, length-set (filled (k + 1) other cs) 0 zeroth);
+                some-room = omega arith;
+                top = subst (λ h. h .index ≤ k) (sym head-is) zero-le;
+                cells-ok = λ y m. subst (λ p. TickOk p 0 (cell-at blank (new-cells e k cs) y .tick)) z (cells-fit y m);
+                head-ok = subst (λ p. TickOk p 0 (head-of blank (new-heads e hs) .tick)) z
+                    (subst (λ h. TickOk 0 0 (h .tick)) (sym head-is) (record { low = omega (arith, ints); high = omega (arith, ints) }));
+                seats-ok = λ j l. subst (λ q. SeatOk k none 0 q) (sym (getD-filled n Empty ss j Empty l)) tt;
+              };
+        }
 
   pub made-bounded : Bounded blank (made-tray e cs hs ss)
   made-bounded =
       cond-both (enough cs hs ss) _ _ (Bounded blank)
-        (λ g. let l = tray-held cs hs ss g in made-held (l .0) (l .1) (l .2))
-        (λ _. record { seats-long = zero-le; room-small = omega arith; few = zero-le; held = λ m. absurd (nobody m) })
+      (λ g. let l = tray-held cs hs ss g in made-held (l .0) (l .1) (l .2))
+      (λ _. record { seats-long = zero-le; room-small = omega arith; few = zero-le; held = λ m. absurd (nobody m) })
     where
       nobody : 0 < 0 → ⊥
       nobody m = omega arith

@@ -37,20 +37,22 @@ module _ (k p g : ℕ) where
 
 held-one : {E : Type 0} (blank : E) (s : TrayState E) (p : ℕ) → IsProp (Held blank s p)
 held-one blank s p x y = λ i. record {
-    heads-long = le-prop (x .heads-long) (y .heads-long) i;
-    cells-long = le-prop (x .cells-long) (y .cells-long) i;
-    some-room = le-prop (x .some-room) (y .some-room) i;
-    top = le-prop (x .top) (y .top) i;
-    cells-ok = λ z l. tick-one (s .room) p (s .seatings) (x .cells-ok z l) (y .cells-ok z l) i;
-    head-ok = tick-one (s .room) p (s .seatings) (x .head-ok) (y .head-ok) i;
-    seats-ok = λ j l. seat-one (s .room) p (s .seatings) (seat-at (s .seats) j) (x .seats-ok j l) (y .seats-ok j l) i }
+  heads-long = le-prop (x .heads-long) (y .heads-long) i;
+  cells-long = le-prop (x .cells-long) (y .cells-long) i;
+  some-room = le-prop (x .some-room) (y .some-room) i;
+  top = le-prop (x .top) (y .top) i;
+  cells-ok = λ z l. tick-one (s .room) p (s .seatings) (x .cells-ok z l) (y .cells-ok z l) i;
+  head-ok = tick-one (s .room) p (s .seatings) (x .head-ok) (y .head-ok) i;
+  seats-ok = λ j l. seat-one (s .room) p (s .seatings) (seat-at (s .seats) j) (x .seats-ok j l) (y .seats-ok j l) i;
+}
 
 bounded-one : {E : Type 0} (blank : E) (s : TrayState E) → IsProp (Bounded blank s)
 bounded-one blank s x y = λ i. record {
-    seats-long = le-prop (x .seats-long) (y .seats-long) i;
-    room-small = le-prop (x .room-small) (y .room-small) i;
-    few = le-prop (x .few) (y .few) i;
-    held = λ m. held-one blank s _ (x .held m) (y .held m) i }
+  seats-long = le-prop (x .seats-long) (y .seats-long) i;
+  room-small = le-prop (x .room-small) (y .room-small) i;
+  few = le-prop (x .few) (y .few) i;
+  held = λ m. held-one blank s _ (x .held m) (y .held m) i;
+}
 
 -- whatever the blank
 held-any : {E : Type 0} (d d′ : E) (s : TrayState E) (p : ℕ) → Held d s p → Held d′ s p
@@ -62,9 +64,10 @@ held-any d d′ s p h =
       some-room = h .some-room;
       top = subst (λ z. z .index ≤ s .room) top (h .top);
       cells-ok = λ y l. subst (λ z. TickOk p (s .seatings) (z .tick))
-        (getD-default (s .cells) y (record { element = d; tick = pos 0 }) (record { element = d′; tick = pos 0 }) (omega (arith, h .cells-long))) (h .cells-ok y l);
+          (getD-default (s .cells) y (record { element = d; tick = pos 0 }) (record { element = d′; tick = pos 0 }) (omega (arith, h .cells-long))) (h .cells-ok y l);
       head-ok = subst (λ z. TickOk p (s .seatings) (z .tick)) top (h .head-ok);
-      seats-ok = h .seats-ok }
+      seats-ok = h .seats-ok;
+    }
 
 bounded-any : {E : Type 0} (d d′ : E) (s : TrayState E) → Bounded d s → Bounded d′ s
 bounded-any d d′ s b = record { seats-long = b .seats-long; room-small = b .room-small; few = b .few; held = λ m. held-any d d′ s _ (b .held m) }

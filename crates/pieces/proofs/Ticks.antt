@@ -42,6 +42,7 @@ tick-up p g p′ less a o = record { low = up (o .low); high = under (o .high) }
   where
     up : negsuc 0 ≤ℤ a → negsuc 0 ≤ℤ (a +ℤ pos 1)
     up h = omega (arith, ints)
+
     under : (a +ℤ pos p) ≤ℤ pos g → ((a +ℤ pos 1) +ℤ pos p′) ≤ℤ pos g
     under h = omega (arith, ints)
 

@@ -13,7 +13,7 @@ use Rattle.elements.specs.Kinds.{amount-kind}
 abbrev pub ordinary-add : ℕ → ℕ → Amount → ℕ × Reply Amount
 ordinary-add m total x =
     cond (ltb m (total + x .units)) (total, reply Over (amount-kind .blank))
-         (total + x .units, reply Added (record { units = total + x .units }))
+    (total + x .units, reply Added (record { units = total + x .units }))
 
 -- a read replies with the total
 abbrev pub ordinary-read : ℕ → ℕ × Reply Amount

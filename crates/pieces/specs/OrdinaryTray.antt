@@ -19,7 +19,7 @@ module _ {E : Type 0} (blank : E) (k : ℕ) where
   abbrev pub ordinary-pop : List E → List E × Reply E
   ordinary-pop xs =
       cond (eqb (length xs) 0) (xs, reply Empty blank)
-           (take (length xs - 1) xs, reply Popped (getD xs (length xs - 1) blank))
+      (take (length xs - 1) xs, reply Popped (getD xs (length xs - 1) blank))
 
   abbrev pub ordinary-tray : List E → Command E → List E × Reply E
   ordinary-tray xs c = cond (is-push c) (ordinary-push xs (c .element)) (ordinary-pop xs)

@@ -63,14 +63,15 @@ module _ {E : Type 0} (e : ElementKind E) where
   abbrev pub helped-cells : List (Cell E) → Try E → E → List (Cell E)
   helped-cells cs t u =
       cond (helps (cell-at (e .blank) cs (t .head .index)) t u)
-           (set cs (t .head .index) (record { element = t .head .element; tick = t .head .tick })) cs
+      (set cs (t .head .index) (record { element = t .head .element; tick = t .head .tick })) cs
 
   -- access 4 reads there the tick, and a pop the element too
   abbrev pub next-of : List (Cell E) → Try E → Next E
   next-of cs t =
       record {
         element = cond (is-push (t .command)) (t .command .element) (cell-at (e .blank) cs (neighbour t) .element);
-        tick = cell-at (e .blank) cs (neighbour t) .tick }
+        tick = cell-at (e .blank) cs (neighbour t) .tick;
+      }
 
   -- access 5 compares: has the head still the index, the tick and an element the same as the try saw?
   abbrev pub unchanged : Head E → Try E → Bool
@@ -83,17 +84,19 @@ module _ {E : Type 0} (e : ElementKind E) where
   -- one access of worker i, whose seat is q: what it answers, and what it leaves
   abbrev pub accessed : TrayState E → ℕ → Seat E → Result StepAnswer Refusal × TrayState E
   accessed s i Empty = (Err (refusal Piece 6 NothingToStep refl refl), s)
-  accessed s i (Loaded c) =
-      ( Ok (cond (at-limit (s .room) (head-of (e .blank) (s .heads)) c) Settled Moved)
-      , with-seat s i (HeadRead (record { command = c; head = head-of (e .blank) (s .heads) })))
+  accessed s i (Loaded c) = (
+    Ok (cond (at-limit (s .room) (head-of (e .blank) (s .heads)) c) Settled Moved),
+    with-seat s i (HeadRead (record { command = c; head = head-of (e .blank) (s .heads) })),
+  )
   accessed s i (HeadRead t) = (Ok Moved, with-seat s i (CellRead t (cell-at (e .blank) (s .cells) (t .head .index) .element)))
-  accessed s i (CellRead t u) =
-      ( Ok (cond (settled-early (s .room) t) AnsweredEnd Moved)
-      , with-seat (with-cells s (helped-cells (s .cells) t u)) i
-          (cond (settled-early (s .room) t) (Ended (limit-reply (t .command))) (CellWritten t)))
+  accessed s i (CellRead t u) = (
+    Ok (cond (settled-early (s .room) t) AnsweredEnd Moved),
+    with-seat (with-cells s (helped-cells (s .cells) t u)) i
+        (cond (settled-early (s .room) t) (Ended (limit-reply (t .command))) (CellWritten t)),
+  )
   accessed s i (CellWritten t) = (Ok Moved, with-seat s i (NeighbourRead t (next-of (s .cells) t)))
   accessed s i (NeighbourRead t x) =
       cond (unchanged (head-of (e .blank) (s .heads)) t)
-           (Ok SettledEnded, with-seat (with-head s (moved-head t x)) i (Ended (done-reply t)))
-           (Ok StoodOff, with-seat s i (Loaded (t .command)))
+      (Ok SettledEnded, with-seat (with-head s (moved-head t x)) i (Ended (done-reply t)))
+      (Ok StoodOff, with-seat s i (Loaded (t .command)))
   accessed s i (Ended r) = (Err (refusal Piece 6 NothingToStep refl refl), s)

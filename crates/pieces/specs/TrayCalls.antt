@@ -48,8 +48,8 @@ module _ {E : Type 0} where
   abbrev pub admitted : TrayState E → ℕ → Command E → Result (Unit {0}) Refusal × TrayState E
   admitted s i c =
       cond (tray-knows (c .kind))
-           (cond (ltb (s .seatings) most-seatings) (Ok tt, loaded s i c) (Err (refusal Piece 5 NoSeatingsLeft refl refl), s))
-           (Err (refusal Piece 4 UnknownKind refl refl), s)
+      (cond (ltb (s .seatings) most-seatings) (Ok tt, loaded s i c) (Err (refusal Piece 5 NoSeatingsLeft refl refl), s))
+      (Err (refusal Piece 4 UnknownKind refl refl), s)
 
   abbrev pub seat-at-seat : TrayState E → ℕ → Command E → Seat E → Result (Unit {0}) Refusal × TrayState E
   seat-at-seat s i c Empty = admitted s i c
@@ -101,7 +101,12 @@ module _ {E : Type 0} (e : ElementKind E) where
   abbrev pub made-tray : List (Cell E) → List (Head E) → List (Seat E) → TrayState E
   made-tray cs hs ss =
       cond (enough cs hs ss)
-        (record {
-          cells = new-cells (min (length cs - 1) 1024) cs; heads = new-heads hs; seats = filled (min (length ss) 16) Empty ss;
-          seatings = 0; room = min (length cs - 1) 1024; count = min (length ss) 16 })
-        (record { cells = cs; heads = hs; seats = ss; seatings = 0; room = 1; count = 0 })
+      (record {
+        cells = new-cells (min (length cs - 1) 1024) cs;
+        heads = new-heads hs;
+        seats = filled (min (length ss) 16) Empty ss;
+        seatings = 0;
+        room = min (length cs - 1) 1024;
+        count = min (length ss) 16;
+      })
+      (record { cells = cs; heads = hs; seats = ss; seatings = 0; room = 1; count = 0 })

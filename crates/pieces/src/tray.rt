@@ -1,8 +1,7 @@
 // The tray: a bounded abortable stack, which up to sixteen workers use at once, one access at a time.
 ghost use Rattle.pieces.specs.TrayStrips.{Always};
-
-use elements::element::Element;
 use crate::tray::strips::Strips;
+use elements::element::Element;
 
 mod accesses;
 pub mod calls;

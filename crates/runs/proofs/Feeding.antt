@@ -138,16 +138,22 @@ module _ {E : Type 0} (e : ElementKind E) (law : (x : E) → e .same x x ≡ tru
 
   abbrev f₁ : ℕ → E
   f₁ = with-x 1 a (λ _. o)
+
   abbrev f₃ : ℕ → E
   f₃ = with-x 1 o (with-x 0 d f₁)
+
   abbrev f₄ : ℕ → E
   f₄ = with-x 1 b f₃
+
   abbrev f₅ : ℕ → E
   f₅ = with-x 2 c f₄
+
   abbrev f₈ : ℕ → E
   f₈ = with-x 2 o f₅
+
   abbrev f₉ : ℕ → E
   f₉ = with-x 2 o f₈
+
   abbrev f₁₀ : ℕ → E
   f₁₀ = with-x 2 o f₉
 
@@ -155,19 +161,19 @@ module _ {E : Type 0} (e : ElementKind E) (law : (x : E) → e .same x x ≡ tru
   told-all =
       ap (λ (y : Ended-try). told f₁ (Taken 1 (y .0) ∷ events-of e (y .1) (held 0 (push d) ++ whole 1 (pop o) ++ whole 1 (push b) ++ whole 2 (push c) ++ late))) lays-a
       ∙ ap (λ (p : List E × List E). (p .0, a ∷ p .1))
-        ( ap (λ (y : Ended-try). told f₃ (Taken 1 (y .0) ∷ events-of e (y .1) (whole 1 (push b) ++ whole 2 (push c) ++ late))) takes-a
-        ∙ ap (λ (p : List E × List E). (a ∷ p .0, p .1))
-          ( ap (λ (y : Ended-try). told f₄ (Taken 1 (y .0) ∷ events-of e (y .1) (whole 2 (push c) ++ late))) lays-b
-          ∙ ap (λ (p : List E × List E). (p .0, b ∷ p .1))
-            ( ap (λ (y : Ended-try). told f₅ (Taken 2 (y .0) ∷ events-of e (y .1) late)) lays-c
-            ∙ ap (λ (p : List E × List E). (p .0, c ∷ p .1))
-              ( ap (λ (y : Ended-try). told f₅ (Taken 0 (y .0) ∷ events-of e (y .1) pops)) lays-d
-              ∙ ap (λ (p : List E × List E). (p .0, d ∷ p .1))
-                ( ap (λ (y : Ended-try). told f₈ (Taken 2 (y .0) ∷ events-of e (y .1) (whole 2 (pop o) ++ whole 2 (pop o)))) takes-d
-                ∙ ap (λ (p : List E × List E). (d ∷ p .0, p .1))
-                  ( ap (λ (y : Ended-try). told f₉ (Taken 2 (y .0) ∷ events-of e (y .1) (whole 2 (pop o)))) takes-c
-                  ∙ ap (λ (p : List E × List E). (c ∷ p .0, p .1))
-                    (ap (λ (y : Ended-try). told f₁₀ (Taken 2 (y .0) ∷ [])) takes-b)))))))
+      (ap (λ (y : Ended-try). told f₃ (Taken 1 (y .0) ∷ events-of e (y .1) (whole 1 (push b) ++ whole 2 (push c) ++ late))) takes-a
+      ∙ ap (λ (p : List E × List E). (a ∷ p .0, p .1))
+      (ap (λ (y : Ended-try). told f₄ (Taken 1 (y .0) ∷ events-of e (y .1) (whole 2 (push c) ++ late))) lays-b
+      ∙ ap (λ (p : List E × List E). (p .0, b ∷ p .1))
+      (ap (λ (y : Ended-try). told f₅ (Taken 2 (y .0) ∷ events-of e (y .1) late)) lays-c
+      ∙ ap (λ (p : List E × List E). (p .0, c ∷ p .1))
+      (ap (λ (y : Ended-try). told f₅ (Taken 0 (y .0) ∷ events-of e (y .1) pops)) lays-d
+      ∙ ap (λ (p : List E × List E). (p .0, d ∷ p .1))
+      (ap (λ (y : Ended-try). told f₈ (Taken 2 (y .0) ∷ events-of e (y .1) (whole 2 (pop o) ++ whole 2 (pop o)))) takes-d
+      ∙ ap (λ (p : List E × List E). (d ∷ p .0, p .1))
+      (ap (λ (y : Ended-try). told f₉ (Taken 2 (y .0) ∷ events-of e (y .1) (whole 2 (pop o)))) takes-c
+      ∙ ap (λ (p : List E × List E). (c ∷ p .0, p .1))
+      (ap (λ (y : Ended-try). told f₁₀ (Taken 2 (y .0) ∷ [])) takes-b)))))))
 
   -- the late write
   late-all : take 1 (drop 31 (events-of e (fresh e) (held-feeder o a b c d))) ≡ Stepped (late-access b c) ∷ []
@@ -186,9 +192,10 @@ module _ {E : Type 0} (e : ElementKind E) (law : (x : E) → e .same x x ≡ tru
         exact = exact;
         laid = on;
         once = subst (λ xs. Shuffled xs (came-off vs)) (sym on)
-          (subst (λ ys. Shuffled (a ∷ b ∷ c ∷ d ∷ []) ys) (sym off)
+            (subst (λ ys. Shuffled (a ∷ b ∷ c ∷ d ∷ []) ys) (sym off)
             (shuffled-swap (a ∷ b ∷ c ∷ d ∷ []) (a ∷ d ∷ c ∷ b ∷ []) 1 3 (lit< tt) (lit< tt) refl));
-        late = ap (λ z. take 1 (drop 31 z)) exact ∙ late-all }
+        late = ap (λ z. take 1 (drop 31 z)) exact ∙ late-all;
+      }
 
   -- a run of these calls on a new tray, if there was memory for it
   pub played-once : (s s′ : TrayState E) (cs : List (Call E)) (r : Result (Vec (Event E) Global) AllocError)

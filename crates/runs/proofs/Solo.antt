@@ -89,7 +89,7 @@ module _ {E : Type 0} (e : ElementKind E) (s : TrayState E) (i : ℕ) (l : i < s
     helped : helped-cells e (s .cells) t (cell .element) ≡ cells′
     helped =
         ap (λ b. cond b (set (s .cells) (h .index) (record { element = h .element; tick = h .tick })) (s .cells))
-          (ap (λ b. tick-eq (cell .tick) (h .tick -ℤ pos 1) && b) (law (cell .element)) ∙ and-true (tick-eq (cell .tick) (h .tick -ℤ pos 1)))
+        (ap (λ b. tick-eq (cell .tick) (h .tick -ℤ pos 1) && b) (law (cell .element)) ∙ and-true (tick-eq (cell .tick) (h .tick -ℤ pos 1)))
 
     same-head : unchanged e h t ≡ true
     same-head =
@@ -130,9 +130,9 @@ module _ {E : Type 0} (e : ElementKind E) (s : TrayState E) (i : ℕ) (l : i < s
     pub solo : ended-try e i (at (s .cells) (Loaded c)) ≡ (Ok (done-reply e t), solo-state)
     solo =
         ap (λ z. take-outcome e z i)
-          ( ap (λ z. stepped e i (stepped e i (stepped e i (stepped e i z)))) access-1
-          ∙ ap (λ z. stepped e i (stepped e i (stepped e i z))) access-2
-          ∙ ap (λ z. stepped e i (stepped e i z)) access-3
-          ∙ ap (stepped e i) access-4
-          ∙ access-5)
+        (ap (λ z. stepped e i (stepped e i (stepped e i (stepped e i z)))) access-1
+        ∙ ap (λ z. stepped e i (stepped e i (stepped e i z))) access-2
+        ∙ ap (λ z. stepped e i (stepped e i z)) access-3
+        ∙ ap (stepped e i) access-4
+        ∙ access-5)
         ∙ taken

@@ -69,7 +69,8 @@ module _ {E : Type 0} (e : ElementKind E) where
         number = access-number (shown-seat s i);
         answer = step-outcome e s i .0;
         head = shown-head (e .blank) (step-outcome e s i .1);
-        touched = touched (e .blank) (step-outcome e s i .1) (shown-seat s i) }
+        touched = touched (e .blank) (step-outcome e s i .1) (shown-seat s i);
+      }
 
   abbrev pub performed : TrayState E → Call E → Event E × TrayState E
   performed s (SeatCall i c) = (Seated i c (seat-outcome s i c .0), seat-outcome s i c .1)

@@ -6,7 +6,9 @@ use Prim.Native.Nat.{ℕ}
 use lib.Dec.{eqb}
 use lib.IntN.{pos}
 use lib.ListN.{length, take, drop, replicate}
-use Rattle.std.specs.declared.option.Option.the-variants.{Some}
+use Rattle.std.specs.declared.option.Option.{Option}
+use Rattle.std.specs.declared.option.Option.the-variants.{Some, None}
+use Rattle.std.specs.Vec.{listOf}
 use Rattle.std.specs.declared.result.Result.the-variants.{Ok, Err}
 use Rattle.std.specs.Slices.{Shuffled}
 use Rattle.elements.specs.declared.answers.StepAnswer.the-variants.{Moved}
@@ -60,13 +62,17 @@ module _ {E : Type 0} where
   held-feeder blank a b c d =
       before-late blank a b c d ++ resumed 0 ++ whole 2 (pop blank) ++ whole 2 (pop blank) ++ whole 2 (pop blank)
 
-  -- what comes off in a run: the element of each reply that says popped
+  -- what an event takes off: the element of a reply that says popped
+  abbrev pub popped : Event E → Option E
+  popped (Seated i c r) = None
+  popped (Stepped a) = None
+  popped (Taken i (Ok r)) = cond (eqb (r .code) (code-number Popped)) (Some (r .element)) None
+  popped (Taken i (Err x)) = None
+
+  -- what comes off in a run
   abbrev pub came-off : List (Event E) → List E
   came-off [] = []
-  came-off (Seated i c r ∷ vs) = came-off vs
-  came-off (Stepped a ∷ vs) = came-off vs
-  came-off (Taken i (Ok r) ∷ vs) = cond (eqb (r .code) (code-number Popped)) (r .element ∷ came-off vs) (came-off vs)
-  came-off (Taken i (Err x) ∷ vs) = came-off vs
+  came-off (v ∷ vs) = listOf (popped v) ++ came-off vs
 
   -- what is laid on: at each reply that says done, the element of that worker's latest command; f has those so far
   abbrev pub laid-since : (ℕ → E) → List (Event E) → List E
@@ -84,15 +90,18 @@ module _ {E : Type 0} where
 abbrev pub fresh : {E : Type 0} → ElementKind E → TrayState E
 fresh e =
     made-tray e (replicate 5 (record { element = e .blank; tick = pos 0 })) (replicate 1 (record { index = 0; element = e .blank; tick = pos 0 }))
-      (replicate 3 Empty)
+    (replicate 3 Empty)
 
 -- the late write, as the run has it: access 3 of feeder 0, which saw a on top at cell 1 and finds the newer b there
 abbrev pub late-access : {E : Type 0} → E → E → Access E
 late-access b c =
     record {
-      worker = 0; number = 3; answer = Ok Moved;
+      worker = 0;
+      number = 3;
+      answer = Ok Moved;
       head = Some (record { index = 2; element = c; tick = pos 1 });
-      touched = Some (record { index = 1; cell = record { element = b; tick = pos 2 } }) }
+      touched = Some (record { index = 1; cell = record { element = b; tick = pos 2 } });
+    }
 
 -- what the run of the held feeder promises of its events
 pub record EachOnce {E : Type 0} (e : ElementKind E) (a b c d : E) (vs : List (Event E)) : Type 0 where

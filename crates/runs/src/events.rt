@@ -1,8 +1,14 @@
 // The calls of a run, and what took place.
 use elements::answers::StepAnswer;
-use elements::commands::{Command, CommandClone, Reply, ReplyClone};
+use elements::commands::Command;
+use elements::commands::CommandClone;
+use elements::commands::Reply;
+use elements::commands::ReplyClone;
 use elements::refusals::Refusal;
-use pieces::tray::records::{Cell, CellClone, Head, HeadClone};
+use pieces::tray::records::Cell;
+use pieces::tray::records::CellClone;
+use pieces::tray::records::Head;
+use pieces::tray::records::HeadClone;
 
 // A call of one worker.
 #[derive(Clone, Copy)]

@@ -7,13 +7,17 @@ ghost use Rattle.pieces.specs.Trays.{tray-state};
 ghost use Rattle.pieces.specs.TrayAccess.{neighbour};
 ghost use Rattle.pieces.specs.TrayCalls.{step-outcome};
 ghost use Rattle.runs.specs.Events.{access-number, touched-at, touched, access-of, performed, Played};
-
-use std::alloc::{AllocError, Global};
-
+use crate::events::Access;
+use crate::events::Call;
+use crate::events::Event;
+use crate::events::Touched;
 use elements::element::Element;
 use pieces::tray::Tray;
-use pieces::tray::records::{Seat, TrayKind, Try};
-use crate::events::{Access, Call, Event, Touched};
+use pieces::tray::records::Seat;
+use pieces::tray::records::TrayKind;
+use pieces::tray::records::Try;
+use std::alloc::AllocError;
+use std::alloc::Global;
 
 // Which access a seat makes next.
 fn access_number<E: Element>(seat: Option<Seat<E>>) -> u8
@@ -71,7 +75,13 @@ fn access<E: Element>(tray: &mut Tray<E>, worker: usize) -> Access<E>
 {
     let seat = tray.seat_of(worker);
     let answer = tray.step(worker);
-    Access { worker, number: access_number(seat), answer, head: tray.head(), touched: touched_by(tray, seat) }
+    Access {
+        worker,
+        number: access_number(seat),
+        answer,
+        head: tray.head(),
+        touched: touched_by(tray, seat),
+    }
 }
 
 // One call.
@@ -86,7 +96,11 @@ pub fn perform<E: Element>(tray: &mut Tray<E>, call: Call<E>) -> Event<E>
 }
 
 // Plays the calls one after another and gives what took place. If there is no memory for that, nothing is played.
-pub fn play<E: Element>(heap: Global, tray: &mut Tray<E>, calls: &[Call<E>]) -> Result<Vec<Event<E>>, AllocError>
+pub fn play<E: Element>(
+    heap: Global,
+    tray: &mut Tray<E>,
+    calls: &[Call<E>],
+) -> Result<Vec<Event<E>>, AllocError>
     ensures { λ r. ⌜ Played (E·Element .kind) (tray-state (now (tray .entry))) (now (calls .entry)) r (tray-state (now (tray .exit))) ⌝ }
 {
     let mut events = Vec::with_capacity(heap, calls.len())?;

@@ -14,11 +14,19 @@ ghost use Rattle.pieces.specs.declared.tray.records.Seat.the-variants.{Empty};
 ghost use Rattle.pieces.specs.TrayKinds.{tray-knows};
 ghost use Rattle.pieces.specs.TrayCalls.{filled, new-cells, new-heads, enough};
 ghost use Rattle.pieces.specs.TrayAccess.{tick-eq, at-limit, settled-early, neighbour, limit-reply, done-reply, helps, helped-cells, next-of, unchanged, moved-head};
-
-use elements::commands::{Code, Command, Reply};
+use crate::tray::records::Cell;
+use crate::tray::records::Head;
+use crate::tray::records::Next;
+use crate::tray::records::Seat;
+use crate::tray::records::TrayKind;
+use crate::tray::records::Try;
+use elements::commands::Code;
+use elements::commands::Command;
+use elements::commands::Reply;
 use elements::element::Element;
-use elements::refusals::{Cause, Layer, Refusal};
-use crate::tray::records::{Cell, Head, Next, Seat, TrayKind, Try};
+use elements::refusals::Cause;
+use elements::refusals::Layer;
+use elements::refusals::Refusal;
 
 impl TrayKind {
     pub fn number(self) -> u8
@@ -42,7 +50,11 @@ fn pushes<E: Element>(command: Command<E>) -> bool
 pub fn limits<E: Element>(room: usize, head: Head<E>, command: Command<E>) -> bool
     ensures { λ r. ⌜ r ≡ at-limit room head command ⌝ }
 {
-    if pushes(command) { head.index == room } else { head.index == 0 }
+    if pushes(command) {
+        head.index == room
+    } else {
+        head.index == 0
+    }
 }
 
 // Access 1: reads the head.
@@ -50,7 +62,11 @@ pub fn read_head<E: Element>(heads: &[Head<E>]) -> Head<E>
     requires { ⌜ 0 < length (now heads) ⌝ }
     ensures { λ r. ⌜ r ≡ head-of (E·Element .kind .blank) (now (heads .entry)) ⌝ }
 {
-    Head { index: heads[0].index, element: heads[0].element, tick: heads[0].tick }
+    Head {
+        index: heads[0].index,
+        element: heads[0].element,
+        tick: heads[0].tick,
+    }
 }
 
 // Reads a whole cell: no access of a try, but to show it.
@@ -80,7 +96,10 @@ pub fn write_cell<E: Element>(cells: &mut [Cell<E>], attempt: Try<E>, element: E
     let tick = cells[index].tick;
     let held = cells[index].element;
     if tick == attempt.head.tick - 1 && held.same(element) {
-        cells[index] = Cell { element: attempt.head.element, tick: attempt.head.tick };
+        cells[index] = Cell {
+            element: attempt.head.element,
+            tick: attempt.head.tick,
+        };
     }
 }
 
@@ -92,9 +111,15 @@ pub fn read_neighbour<E: Element>(cells: &[Cell<E>], attempt: Try<E>) -> Next<E>
 {
     let index = attempt.head.index;
     if pushes(attempt.command) {
-        Next { element: attempt.command.element, tick: cells[index + 1].tick }
+        Next {
+            element: attempt.command.element,
+            tick: cells[index + 1].tick,
+        }
     } else {
-        Next { element: cells[index - 1].element, tick: cells[index - 1].tick }
+        Next {
+            element: cells[index - 1].element,
+            tick: cells[index - 1].tick,
+        }
     }
 }
 
@@ -102,7 +127,9 @@ pub fn read_neighbour<E: Element>(cells: &[Cell<E>], attempt: Try<E>) -> Next<E>
 fn stands<E: Element>(head: Head<E>, attempt: Try<E>) -> bool
     ensures { λ r. ⌜ r ≡ unchanged (E·Element .kind) head attempt ⌝ }
 {
-    head.index == attempt.head.index && head.tick == attempt.head.tick && head.element.same(attempt.head.element)
+    head.index == attempt.head.index
+        && head.tick == attempt.head.tick
+        && head.element.same(attempt.head.element)
 }
 
 // The head that the try makes.
@@ -112,8 +139,16 @@ fn next_head<E: Element>(attempt: Try<E>, next: Next<E>) -> Head<E>
     requires tick { ⌜ next .tick ≤ℤ pos 4000000000 ⌝ }
     ensures { λ r. ⌜ r ≡ moved-head (E·Element .kind) attempt next ⌝ }
 {
-    let index = if pushes(attempt.command) { attempt.head.index + 1 } else { attempt.head.index - 1 };
-    Head { index, element: next.element, tick: next.tick + 1 }
+    let index = if pushes(attempt.command) {
+        attempt.head.index + 1
+    } else {
+        attempt.head.index - 1
+    };
+    Head {
+        index,
+        element: next.element,
+        tick: next.tick + 1,
+    }
 }
 
 // Access 5: moves the head, if it is still as the try saw it, and says whether it did.
@@ -136,8 +171,15 @@ pub fn write_head<E: Element>(heads: &mut [Head<E>], attempt: Try<E>, next: Next
 pub fn limit_reply<E: Element>(command: Command<E>) -> Reply<E>
     ensures { λ r. ⌜ r ≡ limit-reply (E·Element .kind) command ⌝ }
 {
-    let code = if pushes(command) { Code::Full } else { Code::Empty };
-    Reply { code: code.number(), element: E::blank() }
+    let code = if pushes(command) {
+        Code::Full
+    } else {
+        Code::Empty
+    };
+    Reply {
+        code: code.number(),
+        element: E::blank(),
+    }
 }
 
 // The reply of a try that moved the head.
@@ -145,9 +187,15 @@ pub fn done_reply<E: Element>(attempt: Try<E>) -> Reply<E>
     ensures { λ r. ⌜ r ≡ done-reply (E·Element .kind) attempt ⌝ }
 {
     if pushes(attempt.command) {
-        Reply { code: Code::Done.number(), element: E::blank() }
+        Reply {
+            code: Code::Done.number(),
+            element: E::blank(),
+        }
     } else {
-        Reply { code: Code::Popped.number(), element: attempt.head.element }
+        Reply {
+            code: Code::Popped.number(),
+            element: attempt.head.element,
+        }
     }
 }
 
@@ -197,8 +245,18 @@ pub fn make_cells<E: Element>(cells: &mut [Cell<E>], room: usize)
     requires { ⌜ room < length (now cells) ⌝ }
     ensures { λ _. ⌜ now (cells .exit) ≡ new-cells (E·Element .kind) room (now (cells .entry)) ⌝ }
 {
-    fill_cells(cells, room + 1, Cell { element: E::blank(), tick: 0 });
-    cells[0] = Cell { element: E::blank(), tick: -1 };
+    fill_cells(
+        cells,
+        room + 1,
+        Cell {
+            element: E::blank(),
+            tick: 0,
+        },
+    );
+    cells[0] = Cell {
+        element: E::blank(),
+        tick: -1,
+    };
 }
 
 // The head of a new tray.
@@ -206,7 +264,11 @@ pub fn make_head<E: Element>(heads: &mut [Head<E>])
     requires { ⌜ 0 < length (now heads) ⌝ }
     ensures { λ _. ⌜ now (heads .exit) ≡ new-heads (E·Element .kind) (now (heads .entry)) ⌝ }
 {
-    heads[0] = Head { index: 0, element: E::blank(), tick: 0 };
+    heads[0] = Head {
+        index: 0,
+        element: E::blank(),
+        tick: 0,
+    };
 }
 
 // Whether strips of these lengths hold a tray.
@@ -220,5 +282,8 @@ pub fn hold_tray<E: Element>(cells: &[Cell<E>], heads: &[Head<E>], seats: &[Seat
 pub fn refuse<T>(cause: Cause) -> Result<T, Refusal>
     ensures { λ r. ⌜ r ≡ Err (record { layer = Piece; cause = cause }) ⌝ }
 {
-    Err(Refusal { layer: Layer::Piece, cause })
+    Err(Refusal {
+        layer: Layer::Piece,
+        cause,
+    })
 }

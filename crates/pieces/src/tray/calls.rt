@@ -3,23 +3,31 @@ ghost use mathlib.Core.Path.{_≡_};
 ghost use Rattle.pieces.specs.TrayCalls.{Exactly, seat-outcome, step-outcome, take-outcome, clear-outcome, made-tray};
 ghost use Rattle.pieces.specs.TrayShown.{shown-head, shown-cell, shown-seat};
 ghost use Rattle.pieces.specs.Trays.{tray-state};
-
+use crate::tray::Tray;
+use crate::tray::records::Cell;
+use crate::tray::records::Head;
+use crate::tray::records::Seat;
+use crate::tray::strips::Strips;
 use elements::answers::StepAnswer;
-use elements::commands::{Command, Reply};
+use elements::commands::Command;
+use elements::commands::Reply;
 use elements::element::Element;
 use elements::refusals::Refusal;
-use crate::tray::Tray;
-use crate::tray::records::{Cell, Head, Seat};
-use crate::tray::strips::Strips;
 
 impl<'a, E: Element> Tray<'a, E> {
     // An empty tray in three strips. With at least two cells, one head and one seat it has a place for each cell but
     // the first, at most 1,024, and a worker for each seat, at most 16. In shorter strips it has no worker, and
     // nothing is written, then or later.
-    pub fn new(cells: &'a mut [Cell<E>], heads: &'a mut [Head<E>], seats: &'a mut [Seat<E>]) -> Tray<'a, E>
+    pub fn new(
+        cells: &'a mut [Cell<E>],
+        heads: &'a mut [Head<E>],
+        seats: &'a mut [Seat<E>],
+    ) -> Tray<'a, E>
         ensures { λ r. ⌜ tray-state r ≡ made-tray (E·Element .kind) (now (cells .entry)) (now (heads .entry)) (now (seats .entry)) ⌝ }
     {
-        Tray { strips: Strips::new(cells, heads, seats) }
+        Tray {
+            strips: Strips::new(cells, heads, seats),
+        }
     }
 
     pub fn workers(&self) -> usize

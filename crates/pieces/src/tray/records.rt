@@ -1,5 +1,8 @@
 // What the strips of a tray hold.
-use elements::commands::{Command, CommandClone, Reply, ReplyClone};
+use elements::commands::Command;
+use elements::commands::CommandClone;
+use elements::commands::Reply;
+use elements::commands::ReplyClone;
 
 // The command kinds of a tray.
 #[derive(Clone, Copy)]

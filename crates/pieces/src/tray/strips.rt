@@ -13,13 +13,35 @@ ghost use Rattle.pieces.specs.TrayCalls.{Exactly, seat-outcome, step-outcome, 
 ghost use Rattle.pieces.specs.TrayShown.{shown-head, shown-cell, shown-seat};
 ghost use Rattle.pieces.specs.TrayStrips.{state-of};
 ghost use Rattle.pieces.specs.declared.tray.records.Seat.the-variants.{Loaded, HeadRead, CellRead, CellWritten, NeighbourRead};
-
+use crate::tray::accesses::done_reply;
+use crate::tray::accesses::empty_seats;
+use crate::tray::accesses::hold_tray;
+use crate::tray::accesses::knows;
+use crate::tray::accesses::limit_reply;
+use crate::tray::accesses::limits;
+use crate::tray::accesses::make_cells;
+use crate::tray::accesses::make_head;
+use crate::tray::accesses::read_cell;
+use crate::tray::accesses::read_element;
+use crate::tray::accesses::read_head;
+use crate::tray::accesses::read_neighbour;
+use crate::tray::accesses::read_seat;
+use crate::tray::accesses::refuse;
+use crate::tray::accesses::write_cell;
+use crate::tray::accesses::write_head;
+use crate::tray::accesses::write_seat;
+use crate::tray::records::Cell;
+use crate::tray::records::Head;
+use crate::tray::records::Next;
+use crate::tray::records::Seat;
+use crate::tray::records::Try;
 use elements::answers::StepAnswer;
-use elements::commands::{Code, Command, Reply};
+use elements::commands::Code;
+use elements::commands::Command;
+use elements::commands::Reply;
 use elements::element::Element;
-use elements::refusals::{Cause, Refusal};
-use crate::tray::accesses::{done_reply, empty_seats, hold_tray, knows, limit_reply, limits, make_cells, make_head, read_cell, read_element, read_head, read_neighbour, read_seat, refuse, write_cell, write_head, write_seat};
-use crate::tray::records::{Cell, Head, Next, Seat, Try};
+use elements::refusals::Cause;
+use elements::refusals::Refusal;
 
 #[derive(Drop)]
 pub struct Strips<'a, E: Element> {
@@ -69,7 +91,11 @@ impl<'a, E: Element> Strips<'a, E> {
     {
         let head = self.top();
         write_seat(self.seats, worker, Seat::HeadRead(Try { command, head }));
-        if limits(self.room, head, command) { StepAnswer::Settled } else { StepAnswer::Moved }
+        if limits(self.room, head, command) {
+            StepAnswer::Settled
+        } else {
+            StepAnswer::Moved
+        }
     }
 
     // Access 2.
@@ -92,7 +118,11 @@ impl<'a, E: Element> Strips<'a, E> {
     {
         write_cell(self.cells, attempt, element);
         if limits(self.room, attempt.head, attempt.command) {
-            write_seat(self.seats, worker, Seat::Ended(limit_reply(attempt.command)));
+            write_seat(
+                self.seats,
+                worker,
+                Seat::Ended(limit_reply(attempt.command)),
+            );
             StepAnswer::Ended
         } else {
             write_seat(self.seats, worker, Seat::CellWritten(attempt));
@@ -194,7 +224,10 @@ impl<'a, E: Element> Strips<'a, E> {
             return refuse(Cause::NoSuchWorker);
         }
         let reply = match self.occupant(worker) {
-            Seat::Loaded(_) => Reply { code: Code::StoodOff.number(), element: E::blank() },
+            Seat::Loaded(_) => Reply {
+                code: Code::StoodOff.number(),
+                element: E::blank(),
+            },
             Seat::Ended(reply) => reply,
             _ => return refuse(Cause::NothingToTake),
         };
@@ -221,35 +254,65 @@ impl<'a, E: Element> Strips<'a, E> {
         requires { ⌜ Bounded (E·Element .kind .blank) (state-of (now self)) ⌝ }
         ensures { λ r. ⌜ r ≡ shown-head (E·Element .kind .blank) (state-of (now (self .entry))) ⌝ }
     {
-        if self.count > 0 { Some(self.top()) } else { None }
+        if self.count > 0 {
+            Some(self.top())
+        } else {
+            None
+        }
     }
 
     pub fn cell(&self, index: usize) -> Option<Cell<E>>
         requires { ⌜ Bounded (E·Element .kind .blank) (state-of (now self)) ⌝ }
         ensures { λ r. ⌜ r ≡ shown-cell (E·Element .kind .blank) (state-of (now (self .entry))) index ⌝ }
     {
-        if self.count > 0 && index <= self.room { Some(read_cell(self.cells, index)) } else { None }
+        if self.count > 0 && index <= self.room {
+            Some(read_cell(self.cells, index))
+        } else {
+            None
+        }
     }
 
     pub fn seat_of(&self, worker: usize) -> Option<Seat<E>>
         requires { ⌜ now self .count ≤ length (now (now self .seats)) ⌝ }
         ensures { λ r. ⌜ r ≡ shown-seat (state-of (now (self .entry))) worker ⌝ }
     {
-        if worker < self.count { Some(self.occupant(worker)) } else { None }
+        if worker < self.count {
+            Some(self.occupant(worker))
+        } else {
+            None
+        }
     }
 
     // A tray in three strips. Where they are too short for one, it has no worker, and nothing is written.
-    pub fn new(cells: &'a mut [Cell<E>], heads: &'a mut [Head<E>], seats: &'a mut [Seat<E>]) -> Strips<'a, E>
+    pub fn new(
+        cells: &'a mut [Cell<E>],
+        heads: &'a mut [Head<E>],
+        seats: &'a mut [Seat<E>],
+    ) -> Strips<'a, E>
         ensures { λ r. ⌜ state-of r ≡ made-tray (E·Element .kind) (now (cells .entry)) (now (heads .entry)) (now (seats .entry)) ⌝ }
     {
         if !hold_tray(cells, heads, seats) {
-            return Strips { cells, heads, seats, seatings: 0, room: 1, count: 0 };
+            return Strips {
+                cells,
+                heads,
+                seats,
+                seatings: 0,
+                room: 1,
+                count: 0,
+            };
         }
         let room = (cells.len() - 1).min(1024);
         let count = seats.len().min(16);
         make_cells(cells, room);
         make_head(heads);
         empty_seats(seats, count);
-        Strips { cells, heads, seats, seatings: 0, room, count }
+        Strips {
+            cells,
+            heads,
+            seats,
+            seatings: 0,
+            room,
+            count,
+        }
     }
 }

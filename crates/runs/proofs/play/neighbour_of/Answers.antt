@@ -15,5 +15,5 @@ returns-in-None g c =
     let t = c .args .attempt in
     let small : c .args .tray .now .strips .room ≤ 1024 = known (g .E·Element .kind .blank) (c .args .tray .now .strips) (c .args .tray .now .bounded) .room-small in
     let above : neighbour t ≡ t .head .index + 1 =
-          ap (λ b. cond b (t .head .index + 1) (t .head .index - 1)) (eq-eqb (t .command .kind) 1 (c .if-attempt-number .left ∙ c .number .ensures)) in
+    ap (λ b. cond b (t .head .index + 1) (t .head .index - 1)) (eq-eqb (t .command .kind) 1 (c .if-attempt-number .left ∙ c .number .ensures)) in
     past-room (g .E·Element .kind .blank) (tray-state (c .args .tray .now)) (neighbour t) (omega (arith, c .in-None .ensures tt))

@@ -11,8 +11,8 @@ use Rattle.runs.proofs.play.play.Given as given
 abbrev pub Inv-loop-call : given.InvT-loop-call
 Inv-loop-call g l =
     (vec-items (l .events) ++ events-of (g .E·Element .kind) (tray-state (l .tray)) (drop (l .call-index) (l .calls))
-        ≡ events-of (g .E·Element .kind) (tray-state (l .entry .tray)) (l .calls))
+    ≡ events-of (g .E·Element .kind) (tray-state (l .entry .tray)) (l .calls))
     × (state-after (g .E·Element .kind) (tray-state (l .tray)) (drop (l .call-index) (l .calls))
-        ≡ state-after (g .E·Element .kind) (tray-state (l .entry .tray)) (l .calls))
+    ≡ state-after (g .E·Element .kind) (tray-state (l .entry .tray)) (l .calls))
     × (vec-len (l .events) ≡ l .call-index)
     × (length (l .calls) ≤ vec-cap (l .events))

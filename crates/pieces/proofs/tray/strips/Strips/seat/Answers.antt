@@ -18,5 +18,5 @@ returns-in-rest g c =
     let s = state-of (c .args .self .now) in
     let i = c .args .worker in
     answered s i (seat-at-seat s i (c .args .command)) (c .occupant .result) (c .if-worker-self .left) (c .occupant .ensures)
-      (subst (λ y. Exactly (c .refuse-in-rest .result) s y) (not-idle s i (c .args .command) (c .occupant .result) (c .in-rest .not-Empty))
-        (record { answer = c .refuse-in-rest .ensures; left = refl }))
+    (subst (λ y. Exactly (c .refuse-in-rest .result) s y) (not-idle s i (c .args .command) (c .occupant .result) (c .in-rest .not-Empty))
+    (record { answer = c .refuse-in-rest .ensures; left = refl }))

@@ -14,7 +14,8 @@ access-head-requires g c κs =
     let s = state-of (c .args .self .now) in
     record {
       seat = seat-within _ s (c .pre) (c .args .worker) (c .if-worker-self .left);
-      heads = held _ s (c .pre) (c .args .worker) (c .if-worker-self .left) .heads-long }
+      heads = held _ s (c .pre) (c .args .worker) (c .if-worker-self .left) .heads-long;
+    }
 
 pub access-cell-requires : need.access-cell-requires
 access-cell-requires g c κs =
@@ -22,7 +23,8 @@ access-cell-requires g c κs =
     let l = c .if-worker-self .left in
     record {
       seat = seat-within _ s (c .pre) (c .args .worker) l;
-      cell = cell-within _ s (c .pre) (c .args .worker) l _ (seat-ok _ s (c .pre) (c .args .worker) l (HeadRead (c .in-HeadRead .attempt)) (c .in-HeadRead .ensures tt) .index) }
+      cell = cell-within _ s (c .pre) (c .args .worker) l _ (seat-ok _ s (c .pre) (c .args .worker) l (HeadRead (c .in-HeadRead .attempt)) (c .in-HeadRead .ensures tt) .index);
+    }
 
 pub help-requires : need.help-requires
 help-requires g c κs =
@@ -46,7 +48,10 @@ move-head-requires g c κs =
     record {
       seat = seat-within _ s (c .pre) (c .args .worker) l;
       heads = held _ s (c .pre) (c .args .worker) l .heads-long;
-      index = o .0; apart = o .1; tick = o .2 }
+      index = o .0;
+      apart = o .1;
+      tick = o .2;
+    }
 
 pub returns-in-Loaded : need.returns-in-Loaded
 returns-in-Loaded g c =
@@ -78,7 +83,8 @@ returns-in-Empty g c =
     let s = state-of (c .args .self .now) in
     let i = c .args .worker in
     elim (c .in-Empty .is) [
-      inl q ↦ answered s i (accessed (g .E·Element .kind) s i) Empty (c .if-worker-self .left) (cc)
-        (record { answer = c .refuse-in-Empty .ensures; left = refl })
-    | inr q ↦ answered s i (accessed (g .E·Element .kind) s i) (Ended (q .0)) (c .if-worker-self .left) (cc (q .1))
-        (record { answer = c .refuse-in-Empty .ensures; left = refl }) ]
+      | inl q ↦ answered s i (accessed (g .E·Element .kind) s i) Empty (c .if-worker-self .left) (cc)
+          (record { answer = c .refuse-in-Empty .ensures; left = refl })
+      | inr q ↦ answered s i (accessed (g .E·Element .kind) s i) (Ended (q .0)) (c .if-worker-self .left) (cc (q .1))
+          (record { answer = c .refuse-in-Empty .ensures; left = refl })
+    ]

@@ -16,8 +16,8 @@ returns-in-rest g c =
     let s = state-of (c .args .self .now) in
     let i = c .args .worker in
     answered s i (take-at-seat (g .E·Element .kind) s i) (c .occupant .result) (c .if-worker-self .left) (c .occupant .ensures)
-      (subst (λ y. Exactly (c .refuse-in-rest .result) s y) (not-taken s i (g .E·Element .kind) (c .occupant .result) (c .in-rest .not-Loaded) (c .in-rest .not-Ended))
-        (record { answer = c .refuse-in-rest .ensures; left = refl }))
+    (subst (λ y. Exactly (c .refuse-in-rest .result) s y) (not-taken s i (g .E·Element .kind) (c .occupant .result) (c .in-rest .not-Loaded) (c .in-rest .not-Ended))
+    (record { answer = c .refuse-in-rest .ensures; left = refl }))
 
 pub returns : need.returns
 returns g c =
@@ -26,9 +26,11 @@ returns g c =
     let e = g .E·Element .kind in
     let emptied = ap (λ z. with-seats s z) (c .write-seat .ensures) in
     elim (c .match-occupant .came) [
-      in-Loaded w ↦ answered s i (take-at-seat e s i) (Loaded (w .in-Loaded .field-0)) (c .if-worker-self .left) (w .in-Loaded .ensures tt)
-        (record {
-          answer = let n = w .number .ensures in let b = w .blank .ensures in let r = w .reply-is in cc;
-          left = emptied })
-    | in-Ended w ↦ answered s i (take-at-seat e s i) (Ended (w .in-Ended .reply)) (c .if-worker-self .left) (w .in-Ended .ensures tt)
-        (record { answer = ap Ok (w .reply-is); left = emptied }) ]
+      | in-Loaded w ↦ answered s i (take-at-seat e s i) (Loaded (w .in-Loaded .field-0)) (c .if-worker-self .left) (w .in-Loaded .ensures tt)
+          (record {
+            answer = let n = w .number .ensures in let b = w .blank .ensures in let r = w .reply-is in cc;
+            left = emptied;
+          })
+      | in-Ended w ↦ answered s i (take-at-seat e s i) (Ended (w .in-Ended .reply)) (c .if-worker-self .left) (w .in-Ended .ensures tt)
+          (record { answer = ap Ok (w .reply-is); left = emptied })
+    ]
