@@ -23,7 +23,8 @@ use Rattle.pieces.specs.declared.tray.records.Seat.{Seat}
 use Rattle.pieces.specs.declared.tray.records.Seat.the-variants.{Empty, Loaded, HeadRead, CellRead, CellWritten, NeighbourRead, Ended}
 use Rattle.pieces.specs.TrayStates.{TrayState, seat-at}
 use Rattle.pieces.specs.TrayAccess.{neighbour}
-use Rattle.pieces.specs.TrayCalls.{Exactly, most-seatings, if-worker, seat-at-seat, take-at-seat}
+use Rattle.elements.specs.Outcomes.{Exactly}
+use Rattle.pieces.specs.TrayCalls.{most-seatings, if-worker, seat-at-seat, take-at-seat}
 use Rattle.pieces.specs.TrayBounds.{all-unsettled, SeatOk, Held, Bounded}
 use Rattle.pieces.proofs.Ticks.{goes, tick-most}
 

@@ -3,3 +3,4 @@ mod Ticks
 mod Bounds
 mod Calls
 pub mod Keeping
+mod Ordinaries

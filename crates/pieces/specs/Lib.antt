@@ -1,4 +1,5 @@
 pub mod TrayKinds
+pub mod Ordinary
 pub mod OrdinaryTray
 pub mod OrdinaryTally
 pub mod TrayStates

@@ -1,5 +1,5 @@
 -- The calls of a tray: what each answers and what it leaves, refused or not, as a function of the whole state before.
-use mathlib.Core.Path.{_≡_, refl}
+use mathlib.Core.Path.{refl}
 use mathlib.Core.Bool.{Bool, cond, _&&_}
 use mathlib.Core.List.{List, [], _∷_, _++_}
 use Prim.Native.Nat.{ℕ, _+_, _-_, min}
@@ -25,11 +25,6 @@ use Rattle.pieces.specs.declared.tray.records.Seat.the-variants.{Empty, Loaded
 use Rattle.pieces.specs.TrayKinds.{tray-knows}
 use Rattle.pieces.specs.TrayStates.{TrayState, seat-at, with-seat, with-seats}
 use Rattle.pieces.specs.TrayAccess.{accessed}
-
--- what a call answers, and what it leaves, are what a function says
-pub record Exactly {R S : Type 0} (r : R) (s : S) (y : R × S) : Type 0 where
-  pub answer : r ≡ y .0
-  pub left : s ≡ y .1
 
 -- how often a tray can be seated
 abbrev pub most-seatings : ℕ

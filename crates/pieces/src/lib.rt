@@ -1,2 +1,3 @@
 // The shared objects.
+pub mod ordinary;
 pub mod tray;

@@ -2,7 +2,7 @@
 ghost use mathlib.Core.Path.{_≡_};
 ghost use mathlib.Core.List.{List};
 ghost use Prim.Native.Nat.{ℕ};
-ghost use Rattle.pieces.specs.TrayCalls.{Exactly};
+ghost use Rattle.elements.specs.Outcomes.{Exactly};
 ghost use Rattle.pieces.specs.Trays.{tray-state};
 ghost use Rattle.pieces.specs.TrayAccess.{neighbour};
 ghost use Rattle.pieces.specs.TrayCalls.{step-outcome};

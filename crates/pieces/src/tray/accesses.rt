@@ -74,7 +74,7 @@ pub fn read_cell<E: Element>(cells: &[Cell<E>], index: usize) -> Cell<E>
     requires { ⌜ index < length (now cells) ⌝ }
     ensures { λ r. ⌜ r ≡ cell-at (E·Element .kind .blank) (now (cells .entry)) index ⌝ }
 {
-    cells[index]
+    Cell { element: cells[index].element, tick: cells[index].tick }
 }
 
 // Access 2: reads the element of a cell.
@@ -123,13 +123,15 @@ pub fn read_neighbour<E: Element>(cells: &[Cell<E>], attempt: Try<E>) -> Next<E>
     }
 }
 
-// Whether a head is as the try saw it.
-fn stands<E: Element>(head: Head<E>, attempt: Try<E>) -> bool
-    ensures { λ r. ⌜ r ≡ unchanged (E·Element .kind) head attempt ⌝ }
+// Whether the head is still as the try saw it.
+fn stands<E: Element>(heads: &[Head<E>], attempt: Try<E>) -> bool
+    requires { ⌜ 0 < length (now heads) ⌝ }
+    ensures {
+        λ r. ⌜ r ≡ unchanged (E·Element .kind) (head-of (E·Element .kind .blank) (now (heads .entry))) attempt ⌝
+    }
 {
-    head.index == attempt.head.index
-        && head.tick == attempt.head.tick
-        && head.element.same(attempt.head.element)
+    let seen = attempt.head;
+    heads[0].index == seen.index && heads[0].tick == seen.tick && heads[0].element.same(seen.element)
 }
 
 // The head that the try makes.
@@ -160,7 +162,7 @@ pub fn write_head<E: Element>(heads: &mut [Head<E>], attempt: Try<E>, next: Next
     ensures moved { λ r. ⌜ r ≡ unchanged (E·Element .kind) (head-of (E·Element .kind .blank) (now (heads .entry))) attempt ⌝ }
     ensures heads { λ r. ⌜ now (heads .exit) ≡ cond r (set (now (heads .entry)) 0 (moved-head (E·Element .kind) attempt next)) (now (heads .entry)) ⌝ }
 {
-    let moved = stands(heads[0], attempt);
+    let moved = stands(heads, attempt);
     if moved {
         heads[0] = next_head(attempt, next);
     }

@@ -1,6 +1,7 @@
 // The calls of a tray. Each says exactly what it answers and what it leaves, refused or not.
 ghost use mathlib.Core.Path.{_≡_};
-ghost use Rattle.pieces.specs.TrayCalls.{Exactly, seat-outcome, step-outcome, take-outcome, clear-outcome, made-tray};
+ghost use Rattle.elements.specs.Outcomes.{Exactly};
+ghost use Rattle.pieces.specs.TrayCalls.{seat-outcome, step-outcome, take-outcome, clear-outcome, made-tray};
 ghost use Rattle.pieces.specs.TrayShown.{shown-head, shown-cell, shown-seat};
 ghost use Rattle.pieces.specs.Trays.{tray-state};
 use crate::tray::Tray;

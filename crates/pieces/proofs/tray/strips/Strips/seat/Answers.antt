@@ -1,7 +1,8 @@
 use mathlib.Core.Path.{refl, sym, ap, subst, _∙_}
 use Rattle.pieces.specs.declared.tray.records.Seat.the-variants.{Empty}
 use Rattle.pieces.specs.TrayStrips.{state-of}
-use Rattle.pieces.specs.TrayCalls.{Exactly, seat-at-seat}
+use Rattle.elements.specs.Outcomes.{Exactly}
+use Rattle.pieces.specs.TrayCalls.{seat-at-seat}
 use Rattle.pieces.proofs.Calls.{answered, unknown, not-idle}
 use Rattle.pieces.proofs.tray.strips.Strips.seat.Needs as need
 

@@ -3,7 +3,8 @@ use Rattle.std.specs.declared.result.Result.the-variants.{Ok}
 use Rattle.pieces.specs.declared.tray.records.Seat.the-variants.{Loaded, Ended}
 use Rattle.pieces.specs.TrayStates.{with-seats}
 use Rattle.pieces.specs.TrayStrips.{state-of}
-use Rattle.pieces.specs.TrayCalls.{Exactly, take-at-seat}
+use Rattle.elements.specs.Outcomes.{Exactly}
+use Rattle.pieces.specs.TrayCalls.{take-at-seat}
 use Rattle.pieces.proofs.Calls.{answered, unknown, not-taken}
 use Rattle.pieces.proofs.tray.strips.Strips.take.Needs as need
 use Rattle.pieces.proofs.tray.strips.Strips.take.Needs.{in-Loaded, in-Ended}
