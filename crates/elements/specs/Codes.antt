@@ -1,5 +1,5 @@
 -- The number of each reply code, and which of them are changes.
-use mathlib.Core.Bool.{Bool, true, false, _||_}
+use mathlib.Core.Bool.{Bool, _||_}
 use Prim.Native.Nat.{ℕ}
 use lib.Dec.{eqb}
 use Rattle.elements.specs.declared.commands.Reply.{Reply}

@@ -1,6 +1,6 @@
 // An element kind, and the three of them.
 ghost use mathlib.Core.Path.{_≡_};
-ghost use mathlib.Core.Bool.{Bool, true};
+ghost use mathlib.Core.Bool.{true};
 ghost use Rattle.elements.specs.Kinds.{ElementKind, bin-kind, amount-kind, slip-kind};
 use crate::kinds::Amount;
 use crate::kinds::Bin;

@@ -1,6 +1,5 @@
 // The numbers that the rules give to answers, reply codes and causes.
 ghost use mathlib.Core.Path.{_≡_};
-ghost use mathlib.Core.Bool.{Bool};
 ghost use Rattle.elements.specs.Answers.{answer-number};
 ghost use Rattle.elements.specs.Codes.{code-number};
 ghost use Rattle.elements.specs.Refusals.{cause-number, asks};

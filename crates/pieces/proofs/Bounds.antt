@@ -1,18 +1,15 @@
 -- Every call leaves a tray within its bounds.
 use mathlib.Core.Path.{_≡_, refl, sym, ap, subst, _∙_}
-use mathlib.Core.Logic.{_⊎_, inl, inr, _≢_}
-use mathlib.Core.Bool.{Bool, true, false, cond, _&&_}
+use mathlib.Core.Logic.{inl, inr}
+use mathlib.Core.Bool.{Bool, true, false, cond}
 use mathlib.Core.List.{List, [], _∷_}
-use Prim.Native.Nat.{ℕ, zero, suc, _+_, _-_, _<_, _≤_, min, zero-le}
+use Prim.Native.Nat.{ℕ, zero, suc, _+_, _-_, _<_, _≤_, zero-le}
 use native.Mathlib.Omega.{arith}
 use native.Mathlib.Nat.{le-refl, le-of-suc-le-suc}
-use lib.ListN.{length, getD, set, take, replicate}
-use lib.Dec.{eqb, ltb}
-use lib.IntN.{ℤ, pos, negsuc, _+ℤ_}
-use lib.Signed.{_≤ℤ_}
-use Rattle.std.proofs.shelf.Signed.{ints}
-use Rattle.std.proofs.shelf.Lists.{length-set, length-take-le, getD-take, getD-set-same, getD-set-other, getD-replicate}
-use Rattle.std.proofs.shelf.Tests.{cases-eq, cases-lt, cond-both, and-parts, ltb-true}
+use lib.ListN.{length, set, take, replicate}
+use lib.Dec.{ltb}
+use Rattle.std.proofs.shelf.Lists.{length-set, length-take-le, getD-take, getD-set-same, getD-set-other}
+use Rattle.std.proofs.shelf.Tests.{cases-eq, ltb-true}
 use Rattle.elements.specs.Kinds.{ElementKind}
 use Rattle.elements.specs.declared.commands.Command.{Command}
 use Rattle.pieces.specs.declared.tray.records.Cell.{Cell}
@@ -22,9 +19,9 @@ use Rattle.pieces.specs.declared.tray.records.Next.{Next}
 use Rattle.pieces.specs.declared.tray.records.Seat.{Seat}
 use Rattle.pieces.specs.declared.tray.records.Seat.the-variants.{Empty, Loaded, HeadRead, CellRead, CellWritten, NeighbourRead, Ended}
 use Rattle.pieces.specs.TrayKinds.{tray-knows}
-use Rattle.pieces.specs.TrayStates.{TrayState, cell-at, head-of, seat-at, with-seat}
+use Rattle.pieces.specs.TrayStates.{TrayState, cell-at, head-of, seat-at}
 use Rattle.pieces.specs.TrayAccess.{at-limit, settled-early, neighbour, helps, helped-cells, next-of, unchanged, moved-head, limit-reply, done-reply, accessed}
-use Rattle.pieces.specs.TrayCalls.{most-seatings, filled, loaded, admitted, seat-at-seat, seat-outcome, step-outcome, take-at-seat, take-outcome, clear-outcome, enough, new-cells, new-heads, made-tray, if-worker}
+use Rattle.pieces.specs.TrayCalls.{most-seatings, filled, seat-at-seat, seat-outcome, step-outcome, take-at-seat, take-outcome, clear-outcome}
 use Rattle.pieces.specs.TrayBounds.{unsettled, all-unsettled, TickOk, TryOk, SeatOk, Held, Bounded}
 use Rattle.pieces.proofs.Filling.{take-filled, length-filled, getD-filled}
 use Rattle.pieces.proofs.Ticks.{tick-kept, try-kept, seat-kept, tick-up, goes}
@@ -273,78 +270,3 @@ module _ {E : Type 0} (blank : E) (s : TrayState E) (b : Bounded blank s) where
               seats-ok = λ j l. subst (λ q. SeatOk (s .room) left (s .seatings) q) (sym (getD-filled (s .count) Empty (s .seats) j Empty l)) tt;
             };
       }
-
--- what strips that hold a tray have
-pub tray-held : {E : Type 0} (cs : List (Cell E)) (hs : List (Head E)) (ss : List (Seat E)) → enough cs hs ss ≡ true
-    → (1 < length cs) × (0 < length hs) × (0 < length ss)
-tray-held cs hs ss g =
-    let a = and-parts (ltb 1 (length cs) && ltb 0 (length hs)) (ltb 0 (length ss)) g in
-    let b = and-parts (ltb 1 (length cs)) (ltb 0 (length hs)) (a .0) in
-    (ltb-true 1 (length cs) (b .0), ltb-true 0 (length hs) (b .1), ltb-true 0 (length ss) (a .1))
-
--- a new tray
-module _ {E : Type 0} (blank : E) (e : ElementKind E) (f : e .blank ≡ blank) (cs : List (Cell E)) (hs : List (Head E)) (ss : List (Seat E)) where
-  -- strips that hold a tray
-  module _ (two : 1 < length cs) (one : 0 < length hs) (some : 0 < length ss) where
-    abbrev k : ℕ
-    k = min (length cs - 1) 1024
-
-    abbrev n : ℕ
-    n = min (length ss) 16
-
-    abbrev zeroth : Cell E
-    zeroth = record { element = e .blank; tick = negsuc 0 }
-
-    abbrev other : Cell E
-    other = record { element = e .blank; tick = pos 0 }
-
-    fits : k + 1 ≤ length cs
-    fits = omega arith
-
-    head-is : head-of blank (new-heads e hs) ≡ record { index = 0; element = e .blank; tick = pos 0 }
-    head-is = getD-set-same hs 0 (record { index = 0; element = e .blank; tick = pos 0 }) _ one
-
-    long : length (filled (k + 1) other cs) ≡ length cs
-    long = length-filled (k + 1) other cs fits
-
-    cells-fit : (y : ℕ) → y ≤ k → TickOk 0 0 (cell-at blank (new-cells e k cs) y .tick)
-    cells-fit y m = elim (cases-eq y 0) [
-      | inl z ↦ subst (λ c. TickOk 0 0 (c .tick))
-          (sym (ap (cell-at blank (new-cells e k cs)) z ∙ getD-set-same (filled (k + 1) other cs) 0 zeroth _ (omega (arith, long))))
-          (record { low = omega (arith, ints); high = omega (arith, ints) })
-      | inr z ↦ subst (λ c. TickOk 0 0 (c .tick))
-          (sym (getD-set-other (filled (k + 1) other cs) 0 y zeroth _ z ∙ getD-filled (k + 1) other cs y _ (omega arith)))
-          (record { low = omega (arith, ints); high = omega (arith, ints) })
-    ]
-
-    abbrev none : ℕ
-    none = all-unsettled k (take n (filled n Empty ss))
-
-    made-held : Bounded blank (record { cells = new-cells e k cs; heads = new-heads e hs; seats = filled n Empty ss; seatings = 0; room = k; count = n })
-    made-held =
-        let z : 0 ≡ none = sym (ap (all-unsettled k) (take-filled n Empty ss) ∙ none-unsettled k n Empty refl) in
-        record {
-          seats-long = omega (arith, length-filled n Empty ss (omega arith));
-          room-small = omega arith;
-          few = zero-le;
-          held = λ _.
-              record {
-                heads-long = omega (arith, length-set hs 0 (record { index = 0; element = e .blank; tick = pos 0 }));
-                cells-long = omega (arith, long, length-set (filled (k + 1) other cs) 0 zeroth);
-                some-room = omega arith;
-                top = subst (λ h. h .index ≤ k) (sym head-is) zero-le;
-                cells-ok = λ y m. subst (λ p. TickOk p 0 (cell-at blank (new-cells e k cs) y .tick)) z (cells-fit y m);
-                head-ok = subst (λ p. TickOk p 0 (head-of blank (new-heads e hs) .tick)) z
-                    (subst (λ h. TickOk 0 0 (h .tick)) (sym head-is) (record { low = omega (arith, ints); high = omega (arith, ints) }));
-                seats-ok = λ j l. subst (λ q. SeatOk k none 0 q) (sym (getD-filled n Empty ss j Empty l)) tt;
-              };
-        }
-
-  pub made-bounded : Bounded blank (made-tray e cs hs ss)
-  made-bounded =
-      cond-both (enough cs hs ss) _ _ (Bounded blank)
-      (λ g. let l = tray-held cs hs ss g in made-held (l .0) (l .1) (l .2))
-      (λ _. record { seats-long = zero-le; room-small = omega arith; few = zero-le; held = λ m. absurd (nobody m) })
-    where
-      nobody : 0 < 0 → ⊥
-      nobody m = omega arith

@@ -2,21 +2,28 @@
 use mathlib.Core.Path.{_≡_, refl, sym, subst}
 use mathlib.Core.Logic.{∥∥₁-elim}
 use mathlib.Core.HLevel.{×-prop}
-use Prim.Native.Nat.{ℕ, _<_, _≤_}
+use mathlib.Core.List.{List}
+use Prim.Native.Nat.{ℕ, _≤_}
 use native.Mathlib.Omega.{arith}
 use native.Mathlib.Bridge.{le-prop}
-use lib.ListN.{length, take}
 use lib.IntN.{ℤ, pos}
 use base.Stored.{coded-set, codedBool}
 use denote.Struct.Props.{≤ℤ-prop, three-prop}
 use Rattle.std.proofs.shelf.Lists.{getD-default}
+use Rattle.elements.specs.Kinds.{ElementKind}
+use Rattle.elements.specs.declared.commands.Command.{Command}
+use Rattle.pieces.specs.declared.tray.records.Cell.{Cell}
+use Rattle.pieces.specs.declared.tray.records.Head.{Head}
 use Rattle.pieces.specs.declared.tray.records.Try.{Try}
 use Rattle.pieces.specs.declared.tray.records.Seat.{Seat}
 use Rattle.pieces.specs.declared.tray.records.Seat.the-variants.{Empty, Loaded, HeadRead, CellRead, CellWritten, NeighbourRead, Ended}
 use Rattle.pieces.specs.declared.tray.strips.Strips.{Strips}
-use Rattle.pieces.specs.TrayStates.{TrayState, cell-at, head-of, seat-at}
+use Rattle.pieces.specs.TrayStates.{TrayState, seat-at}
 use Rattle.pieces.specs.TrayBounds.{TickOk, TryOk, SeatOk, Held, Bounded}
+use Rattle.pieces.specs.TrayCalls.{seat-outcome, step-outcome, take-outcome, clear-outcome, made-tray}
 use Rattle.pieces.specs.TrayStrips.{state-of, Always}
+use Rattle.pieces.proofs.Bounds.{seat-bounded, step-bounded, take-bounded, clear-bounded}
+use Rattle.pieces.proofs.Making.{made-bounded}
 
 -- in one way
 module _ (k p g : ℕ) where
@@ -77,5 +84,24 @@ pub known : {E : Type 0} (blank : E) (r : Strips E) → ∥ Always r ∥₁ → 
 known blank r w = ∥∥₁-elim w (bounded-one blank (state-of r)) (λ f. f blank)
 
 -- and back into it, after a call that leaves s
-pub keep : {E : Type 0} (blank : E) (r : Strips E) (s : TrayState E) → state-of r ≡ s → Bounded blank s → ∥ Always r ∥₁
+keep : {E : Type 0} (blank : E) (r : Strips E) (s : TrayState E) → state-of r ≡ s → Bounded blank s → ∥ Always r ∥₁
 keep blank r s e b = ∣ (λ d. bounded-any blank d (state-of r) (subst (λ z. Bounded blank z) (sym e) b)) ∣₁
+
+-- each call, from r to r′
+module _ {E : Type 0} (e : ElementKind E) (r r′ : Strips E) (w : ∥ Always r ∥₁) where
+  pub seat-keeps : (i : ℕ) (c : Command E) → state-of r′ ≡ seat-outcome (state-of r) i c .1 → ∥ Always r′ ∥₁
+  seat-keeps i c left = keep (e .blank) r′ _ left (seat-bounded (e .blank) (state-of r) (known (e .blank) r w) i c)
+
+  pub step-keeps : (i : ℕ) → state-of r′ ≡ step-outcome e (state-of r) i .1 → ∥ Always r′ ∥₁
+  step-keeps i left = keep (e .blank) r′ _ left (step-bounded (e .blank) (state-of r) (known (e .blank) r w) e refl i)
+
+  pub take-keeps : (i : ℕ) → state-of r′ ≡ take-outcome e (state-of r) i .1 → ∥ Always r′ ∥₁
+  take-keeps i left = keep (e .blank) r′ _ left (take-bounded (e .blank) (state-of r) (known (e .blank) r w) e i)
+
+  pub clear-keeps : state-of r′ ≡ clear-outcome (state-of r) → ∥ Always r′ ∥₁
+  clear-keeps left = keep (e .blank) r′ _ left (clear-bounded (e .blank) (state-of r) (known (e .blank) r w))
+
+-- a new tray
+pub made-keeps : {E : Type 0} (e : ElementKind E) (r : Strips E) (cs : List (Cell E)) (hs : List (Head E)) (ss : List (Seat E))
+    → state-of r ≡ made-tray e cs hs ss → ∥ Always r ∥₁
+made-keeps e r cs hs ss made = keep (e .blank) r _ made (made-bounded (e .blank) e refl cs hs ss)

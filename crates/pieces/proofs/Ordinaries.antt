@@ -1,8 +1,8 @@
 -- The ordinary tray and the ordinary tally keep the law of an ordinary object.
-use mathlib.Core.Path.{_≡_, refl, sym}
+use mathlib.Core.Path.{_≡_, refl}
 use mathlib.Core.Bool.{Bool, true, false, cond}
 use mathlib.Core.List.{List, [], _∷_, _++_}
-use Prim.Native.Nat.{ℕ, _+_, _-_, _<_, _≤_}
+use Prim.Native.Nat.{ℕ, _+_, _-_, _≤_}
 use native.Mathlib.Omega.{arith}
 use lib.Dec.{eqb, ltb}
 use lib.ListN.{length, getD, take}
@@ -30,8 +30,8 @@ law Fits f k = record { stays = λ x c. k x c .0; look = λ x c. k x c .1; not-z
 module _ {E : Type 0} (blank : E) (k : ℕ) where
   kept-tray : (xs : List E) (c : Command E) (push full bare : Bool) → eqb (length xs) k ≡ full
       → Kept (λ (ys : List E). length ys ≤ k) xs
-          (cond push (cond full (xs, reply Full blank) (xs ++ (c .element ∷ []), reply Done blank))
-            (cond bare (xs, reply Empty blank) (take (length xs - 1) xs, reply Popped (getD xs (length xs - 1) blank))))
+      (cond push (cond full (xs, reply Full blank) (xs ++ (c .element ∷ []), reply Done blank))
+      (cond bare (xs, reply Empty blank) (take (length xs - 1) xs, reply Popped (getD xs (length xs - 1) blank))))
   kept-tray xs c true true bare f = (λ l. l, λ _. refl, λ e. omega arith, λ e. omega arith)
   kept-tray xs c true false bare f =
       (λ l. omega (arith, length-push xs (c .element), eqb-false (length xs) k f), λ e. absurd (true≢false e), λ e. omega arith, λ e. omega arith)
@@ -45,8 +45,8 @@ module _ {E : Type 0} (blank : E) (k : ℕ) where
 module _ (m : ℕ) where
   kept-tally : (total : ℕ) (x : Amount) (add over : Bool) → ltb m (total + x .units) ≡ over
       → Kept (λ n. n ≤ m) total
-          (cond add (cond over (total, reply Over (amount-kind .blank)) (total + x .units, reply Added (record { units = total + x .units })))
-            (total, reply Total (record { units = total })))
+      (cond add (cond over (total, reply Over (amount-kind .blank)) (total + x .units, reply Added (record { units = total + x .units })))
+      (total, reply Total (record { units = total })))
   kept-tally total x true true f = (λ l. l, λ _. refl, λ e. omega arith, λ e. omega arith)
   kept-tally total x true false f = (λ l. ltb-false m (total + x .units) f, λ e. absurd (true≢false e), λ e. omega arith, λ e. omega arith)
   kept-tally total x false over f = (λ l. l, λ _. refl, λ e. omega arith, λ e. omega arith)

@@ -1,7 +1,6 @@
 -- What every ordinary object keeps.
 use mathlib.Core.Path.{_≡_}
 use mathlib.Core.Bool.{false}
-use Prim.Native.Nat.{ℕ}
 use Rattle.elements.specs.Codes.{code-number, is-change}
 use Rattle.elements.specs.declared.commands.Command.{Command}
 use Rattle.elements.specs.declared.commands.Reply.{Reply}

@@ -1,5 +1,5 @@
 -- The ordinary tally: a total up to a limit m, that one worker uses at a time.
-use mathlib.Core.Bool.{Bool, cond, _||_}
+use mathlib.Core.Bool.{cond}
 use Prim.Native.Nat.{ℕ, _+_}
 use lib.Dec.{eqb, ltb}
 use Rattle.elements.specs.declared.commands.Command.{Command}

@@ -1,8 +1,8 @@
 -- The five accesses of a try.
-use mathlib.Core.Bool.{Bool, true, false, cond, _&&_}
+use mathlib.Core.Bool.{Bool, false, cond, _&&_}
 use Prim.Native.Nat.{ℕ, _+_, _-_}
 use lib.Dec.{eqb}
-use lib.ListN.{getD, set}
+use lib.ListN.{set}
 use lib.IntN.{ℤ, pos, negsuc, _+ℤ_, _-ℤ_}
 use mathlib.Core.Path.{refl}
 use mathlib.Core.List.{List}
@@ -60,6 +60,7 @@ module _ {E : Type 0} (e : ElementKind E) where
   abbrev pub helps : Cell E → Try E → E → Bool
   helps c t u = tick-eq (c .tick) (t .head .tick -ℤ pos 1) && e .same (c .element) u
 
+  -- the cells after it
   abbrev pub helped-cells : List (Cell E) → Try E → E → List (Cell E)
   helped-cells cs t u =
       cond (helps (cell-at (e .blank) cs (t .head .index)) t u)

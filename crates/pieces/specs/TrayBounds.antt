@@ -1,13 +1,11 @@
 -- What is always true of a tray: its indices lie in its strips, and no tick passes the number of seatings.
 use mathlib.Core.Path.{_≡_}
-use mathlib.Core.Bool.{Bool, false, cond}
+use mathlib.Core.Bool.{false, cond}
 use mathlib.Core.List.{List, [], _∷_}
 use Prim.Native.Nat.{ℕ, _+_, _<_, _≤_}
 use lib.ListN.{length, take}
 use lib.IntN.{ℤ, pos, negsuc, _+ℤ_}
 use lib.Signed.{_≤ℤ_}
-use Rattle.pieces.specs.declared.tray.records.Cell.{Cell}
-use Rattle.pieces.specs.declared.tray.records.Head.{Head}
 use Rattle.pieces.specs.declared.tray.records.Try.{Try}
 use Rattle.pieces.specs.declared.tray.records.Seat.{Seat}
 use Rattle.pieces.specs.declared.tray.records.Seat.the-variants.{Empty, Loaded, HeadRead, CellRead, CellWritten, NeighbourRead, Ended}
@@ -25,6 +23,7 @@ unsettled k (CellWritten t) = 1
 unsettled k (NeighbourRead t x) = 1
 unsettled k (Ended r) = 0
 
+-- how many seats are so
 abbrev pub all-unsettled : {E : Type 0} → ℕ → List (Seat E) → ℕ
 all-unsettled k [] = 0
 all-unsettled k (q ∷ qs) = unsettled k q + all-unsettled k qs
@@ -34,11 +33,12 @@ pub record TickOk (p g : ℕ) (tick : ℤ) : Type 0 where
   pub low : negsuc 0 ≤ℤ tick
   pub high : (tick +ℤ pos p) ≤ℤ pos g
 
--- what a try remembers
+-- the head that a try remembers lies within the tray
 pub record TryOk {E : Type 0} (k p g : ℕ) (t : Try E) : Type 0 where
   pub index : t .head .index ≤ k
   pub tick : TickOk p g (t .head .tick)
 
+-- what a seat remembers; a try that goes on after its third access has not settled
 abbrev pub SeatOk : {E : Type 0} → ℕ → ℕ → ℕ → Seat E → Type 0
 SeatOk k p g Empty = Unit {0}
 SeatOk k p g (Loaded c) = Unit {0}
@@ -48,7 +48,7 @@ SeatOk k p g (CellWritten t) = TryOk k p g t × (settled-early k t ≡ false)
 SeatOk k p g (NeighbourRead t x) = TryOk k p g t × (settled-early k t ≡ false) × TickOk p g (x .tick)
 SeatOk k p g (Ended r) = Unit {0}
 
--- of a tray with workers; `blank` stands for what is past a strip's end
+-- of a tray with workers, p of whose seats have not settled; `blank` stands for what is past a strip's end
 pub record Held {E : Type 0} (blank : E) (s : TrayState E) (p : ℕ) : Type 0 where
   pub heads-long : 0 < length (s .heads)
   pub cells-long : s .room < length (s .cells)

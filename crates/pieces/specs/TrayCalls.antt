@@ -1,7 +1,7 @@
 -- The calls of a tray: what each answers and what it leaves, refused or not, as a function of the whole state before.
-use mathlib.Core.Path.{refl}
-use mathlib.Core.Bool.{Bool, cond, _&&_}
-use mathlib.Core.List.{List, [], _∷_, _++_}
+use mathlib.Core.Path.{_≡_, refl}
+use mathlib.Core.Bool.{Bool, true, cond, _&&_}
+use mathlib.Core.List.{List, _++_}
 use Prim.Native.Nat.{ℕ, _+_, _-_, min}
 use lib.Dec.{ltb}
 use lib.ListN.{length, set, drop, replicate}
@@ -10,12 +10,13 @@ use Rattle.std.specs.declared.result.Result.{Result}
 use Rattle.std.specs.declared.result.Result.the-variants.{Ok, Err}
 use Rattle.elements.specs.Kinds.{ElementKind}
 use Rattle.elements.specs.Codes.{reply}
-use Rattle.elements.specs.Refusals.{refusal}
+use Rattle.elements.specs.Refusals.{cause-number, asks, refusal}
 use Rattle.elements.specs.declared.commands.Command.{Command}
 use Rattle.elements.specs.declared.commands.Reply.{Reply}
 use Rattle.elements.specs.declared.commands.Code.the-variants.{StoodOff}
 use Rattle.elements.specs.declared.answers.StepAnswer.{StepAnswer}
 use Rattle.elements.specs.declared.refusals.Refusal.{Refusal}
+use Rattle.elements.specs.declared.refusals.Cause.{Cause}
 use Rattle.elements.specs.declared.refusals.Cause.the-variants.{NoSuchWorker, NotIdle, UnknownKind, NoSeatingsLeft, NothingToTake}
 use Rattle.elements.specs.declared.refusals.Layer.the-variants.{Piece}
 use Rattle.pieces.specs.declared.tray.records.Cell.{Cell}
@@ -35,33 +36,40 @@ abbrev pub filled : {A : Type 0} → ℕ → A → List A → List A
 filled n a xs = replicate n a ++ drop n xs
 
 module _ {E : Type 0} where
+  -- a refusal moves nothing; the two proofs, each `refl`, tie the number to the cause and to the layer
+  abbrev pub refused : {R : Type 0} → TrayState E → (n : ℕ) (c : Cause) → cause-number c ≡ n → asks Piece n ≡ true → Result R Refusal × TrayState E
+  refused s n c numbered asked = (Err (refusal Piece n c numbered asked), s)
+
+  -- the first question before any call of a worker
+  abbrev pub if-worker : {R : Type 0} → TrayState E → ℕ → Result R Refusal × TrayState E → Result R Refusal × TrayState E
+  if-worker s i y = cond (ltb i (s .count)) y (refused s 1 NoSuchWorker refl refl)
+
   -- the state with a command seated
   abbrev pub loaded : TrayState E → ℕ → Command E → TrayState E
   loaded s i c = record { cells = s .cells; heads = s .heads; seats = set (s .seats) i (Loaded c); seatings = s .seatings + 1; room = s .room; count = s .count }
 
-  -- seating at an empty seat
+  -- Seat at an empty seat: the last two questions
   abbrev pub admitted : TrayState E → ℕ → Command E → Result (Unit {0}) Refusal × TrayState E
   admitted s i c =
       cond (tray-knows (c .kind))
-      (cond (ltb (s .seatings) most-seatings) (Ok tt, loaded s i c) (Err (refusal Piece 5 NoSeatingsLeft refl refl), s))
-      (Err (refusal Piece 4 UnknownKind refl refl), s)
+      (cond (ltb (s .seatings) most-seatings) (Ok tt, loaded s i c) (refused s 5 NoSeatingsLeft refl refl))
+      (refused s 4 UnknownKind refl refl)
 
+  -- Seat at the worker's seat
   abbrev pub seat-at-seat : TrayState E → ℕ → Command E → Seat E → Result (Unit {0}) Refusal × TrayState E
   seat-at-seat s i c Empty = admitted s i c
-  seat-at-seat s i c (Loaded c′) = (Err (refusal Piece 2 NotIdle refl refl), s)
-  seat-at-seat s i c (HeadRead t) = (Err (refusal Piece 2 NotIdle refl refl), s)
-  seat-at-seat s i c (CellRead t u) = (Err (refusal Piece 2 NotIdle refl refl), s)
-  seat-at-seat s i c (CellWritten t) = (Err (refusal Piece 2 NotIdle refl refl), s)
-  seat-at-seat s i c (NeighbourRead t x) = (Err (refusal Piece 2 NotIdle refl refl), s)
-  seat-at-seat s i c (Ended r) = (Err (refusal Piece 2 NotIdle refl refl), s)
+  seat-at-seat s i c (Loaded c′) = refused s 2 NotIdle refl refl
+  seat-at-seat s i c (HeadRead t) = refused s 2 NotIdle refl refl
+  seat-at-seat s i c (CellRead t u) = refused s 2 NotIdle refl refl
+  seat-at-seat s i c (CellWritten t) = refused s 2 NotIdle refl refl
+  seat-at-seat s i c (NeighbourRead t x) = refused s 2 NotIdle refl refl
+  seat-at-seat s i c (Ended r) = refused s 2 NotIdle refl refl
 
-  -- a call of a worker is refused first of all if there is no such worker
-  abbrev pub if-worker : {R : Type 0} → TrayState E → ℕ → Result R Refusal × TrayState E → Result R Refusal × TrayState E
-  if-worker s i y = cond (ltb i (s .count)) y (Err (refusal Piece 1 NoSuchWorker refl refl), s)
-
+  -- Seat
   abbrev pub seat-outcome : TrayState E → ℕ → Command E → Result (Unit {0}) Refusal × TrayState E
   seat-outcome s i c = if-worker s i (seat-at-seat s i c (seat-at (s .seats) i))
 
+  -- Clear
   abbrev pub clear-outcome : TrayState E → TrayState E
   clear-outcome s = with-seats s (filled (s .count) Empty (s .seats))
 
@@ -70,18 +78,21 @@ module _ {E : Type 0} where
   enough cs hs ss = ltb 1 (length cs) && ltb 0 (length hs) && ltb 0 (length ss)
 
 module _ {E : Type 0} (e : ElementKind E) where
+  -- Step
   abbrev pub step-outcome : TrayState E → ℕ → Result StepAnswer Refusal × TrayState E
   step-outcome s i = if-worker s i (accessed e s i (seat-at (s .seats) i))
 
+  -- Take at the worker's seat
   abbrev pub take-at-seat : TrayState E → ℕ → Seat E → Result (Reply E) Refusal × TrayState E
-  take-at-seat s i Empty = (Err (refusal Piece 7 NothingToTake refl refl), s)
+  take-at-seat s i Empty = refused s 7 NothingToTake refl refl
   take-at-seat s i (Loaded c) = (Ok (reply StoodOff (e .blank)), with-seat s i Empty)
-  take-at-seat s i (HeadRead t) = (Err (refusal Piece 7 NothingToTake refl refl), s)
-  take-at-seat s i (CellRead t u) = (Err (refusal Piece 7 NothingToTake refl refl), s)
-  take-at-seat s i (CellWritten t) = (Err (refusal Piece 7 NothingToTake refl refl), s)
-  take-at-seat s i (NeighbourRead t x) = (Err (refusal Piece 7 NothingToTake refl refl), s)
+  take-at-seat s i (HeadRead t) = refused s 7 NothingToTake refl refl
+  take-at-seat s i (CellRead t u) = refused s 7 NothingToTake refl refl
+  take-at-seat s i (CellWritten t) = refused s 7 NothingToTake refl refl
+  take-at-seat s i (NeighbourRead t x) = refused s 7 NothingToTake refl refl
   take-at-seat s i (Ended r) = (Ok r, with-seat s i Empty)
 
+  -- Take
   abbrev pub take-outcome : TrayState E → ℕ → Result (Reply E) Refusal × TrayState E
   take-outcome s i = if-worker s i (take-at-seat s i (seat-at (s .seats) i))
 
@@ -89,6 +100,7 @@ module _ {E : Type 0} (e : ElementKind E) where
   abbrev pub new-cells : ℕ → List (Cell E) → List (Cell E)
   new-cells k cs = set (filled (k + 1) (record { element = e .blank; tick = pos 0 }) cs) 0 (record { element = e .blank; tick = negsuc 0 })
 
+  -- its head: at index 0, nothing lies on the tray
   abbrev pub new-heads : List (Head E) → List (Head E)
   new-heads hs = set hs 0 (record { index = 0; element = e .blank; tick = pos 0 })
 

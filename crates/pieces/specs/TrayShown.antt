@@ -1,5 +1,5 @@
 -- What a tray shows of itself; one without workers shows nothing.
-use mathlib.Core.Bool.{Bool, cond, _&&_}
+use mathlib.Core.Bool.{cond, _&&_}
 use Prim.Native.Nat.{ℕ}
 use lib.Dec.{ltb, leb}
 use Rattle.std.specs.declared.option.Option.{Option}

@@ -1,8 +1,10 @@
 -- The whole state of a tray: its three strips, to their ends, and its own numbers.
+use mathlib.Core.Bool.{cond}
 use mathlib.Core.List.{List, [], _∷_, _++_}
 use Prim.Native.Nat.{ℕ, zero, suc}
+use lib.Dec.{ltb}
 use lib.ListN.{getD, set}
-use lib.IntN.{ℤ, pos}
+use lib.IntN.{pos}
 use Rattle.pieces.specs.declared.tray.records.Cell.{Cell}
 use Rattle.pieces.specs.declared.tray.records.Head.{Head}
 use Rattle.pieces.specs.declared.tray.records.Seat.{Seat}
@@ -27,6 +29,20 @@ module _ {E : Type 0} where
 
   abbrev pub seat-at : List (Seat E) → ℕ → Seat E
   seat-at ss i = getD ss i Empty
+
+  -- the elements of the cells 1 to y
+  abbrev pub below : E → List (Cell E) → ℕ → List E
+  below blank cs zero = []
+  below blank cs (suc y) = below blank cs y ++ (cell-at blank cs (suc y) .element ∷ [])
+
+  -- what lies on a tray whose head is at index x with the element v, the topmost last
+  abbrev pub stack : E → List (Cell E) → ℕ → E → List E
+  stack blank cs zero v = []
+  stack blank cs (suc y) v = below blank cs y ++ (v ∷ [])
+
+  -- the content; a tray without workers has none
+  abbrev pub tray-content : E → TrayState E → List E
+  tray-content blank s = cond (ltb 0 (s .count)) (stack blank (s .cells) (head-of blank (s .heads) .index) (head-of blank (s .heads) .element)) []
 
   -- the state with other cells, another head, other seats, another seat of worker i
   abbrev pub with-cells : TrayState E → List (Cell E) → TrayState E

@@ -5,6 +5,7 @@ use elements::element::Element;
 
 mod accesses;
 pub mod calls;
+mod kinds;
 pub mod records;
 mod strips;
 

@@ -1,11 +1,11 @@
 -- The run of the held feeder, for any four elements of any kind.
 use mathlib.Core.Path.{_≡_, refl, sym, ap, subst, _∙_}
-use mathlib.Core.Bool.{Bool, true, false, cond}
+use mathlib.Core.Bool.{true, cond}
 use mathlib.Core.List.{List, [], _∷_, _++_}
 use Prim.Native.Nat.{ℕ, _+_, _<_, _≤_}
 use lib.Dec.{eqb, lit<, lit≤}
-use lib.IntN.{ℤ, pos, negsuc}
-use lib.ListN.{length, take, drop}
+use lib.IntN.{pos}
+use lib.ListN.{take, drop}
 use Rattle.std.specs.Slices.{Shuffled}
 use Rattle.std.proofs.shelf.Sorted.{shuffled-swap}
 use Rattle.std.specs.declared.result.Result.{Result}
@@ -31,7 +31,7 @@ use Rattle.runs.specs.declared.events.Call.the-variants.{Seat as SeatCall, Ste
 use Rattle.runs.specs.declared.events.Event.{Event}
 use Rattle.runs.specs.declared.events.Event.the-variants.{Stepped, Taken}
 use Rattle.runs.specs.Events.{events-of, state-after, Played}
-use Rattle.runs.specs.HeldFeeder.{push, pop, tried, whole, held, resumed, before-late, held-feeder, came-off, laid-since, laid-on, fresh, late-access, EachOnce}
+use Rattle.runs.specs.HeldFeeder.{push, pop, whole, held, resumed, held-feeder, came-off, laid-since, laid-on, fresh, late-access, EachOnce}
 use Rattle.runs.proofs.Solo.{ended-try, solo}
 
 module _ {E : Type 0} (e : ElementKind E) (law : (x : E) → e .same x x ≡ true) (a b c d : E) where

@@ -1,8 +1,9 @@
 -- A run, call by call.
-use mathlib.Core.Path.{_≡_, refl, sym, ap, _∙_}
+use mathlib.Core.Path.{_≡_, sym, ap, _∙_}
 use mathlib.Core.List.{List, [], _∷_, _++_}
 use Prim.Native.Nat.{ℕ, _+_, _<_, _≤_}
 use lib.ListN.{length, getD, drop}
+use Rattle.std.specs.declared.option.Option.{Option}
 use Rattle.std.specs.declared.option.Option.the-variants.{None}
 use Rattle.std.specs.Options.{mapped}
 use Rattle.std.specs.Vec.{listOf}
@@ -49,11 +50,11 @@ module _ {E : Type 0} (e : ElementKind E) (s₀ : TrayState E) (cs : List (Call 
 
 -- what comes off, event by event
 module _ {E : Type 0} (vs : List (Event E)) where
-  pub off-more : (i : ℕ) (xs xs′ : List E) (v : Event E) → i < length vs → v ≡ getD vs i v → xs′ ≡ xs ++ listOf (popped v)
-      → xs ++ came-off (drop i vs) ≡ came-off vs → xs′ ++ came-off (drop (i + 1) vs) ≡ came-off vs
-  off-more i xs xs′ v l is more a =
+  pub off-more : (i : ℕ) (xs xs′ : List E) (v : Event E) (o : Option E)
+      → i < length vs → v ≡ getD vs i v → o ≡ popped v → xs′ ≡ xs ++ listOf o → xs ++ came-off (drop i vs) ≡ came-off vs → xs′ ++ came-off (drop (i + 1) vs) ≡ came-off vs
+  off-more i xs xs′ v o l is found more a =
       let d : drop i vs ≡ v ∷ drop (i + 1) vs = drop-more vs i v l ∙ ap (λ z. z ∷ drop (i + 1) vs) (sym is) in
-      ap (λ z. z ++ came-off (drop (i + 1) vs)) more
+      ap (λ z. z ++ came-off (drop (i + 1) vs)) (more ∙ ap (λ z. xs ++ listOf z) found)
       ∙ append-assoc xs (listOf (popped v)) (came-off (drop (i + 1) vs))
       ∙ ap (λ z. xs ++ came-off z) (sym d)
       ∙ a

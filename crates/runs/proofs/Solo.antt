@@ -1,21 +1,19 @@
 -- A try that nobody disturbs: five accesses, after which its reply is the one of a try that moved the head.
-use mathlib.Core.Path.{_≡_, refl, sym, ap, subst, _∙_}
+use mathlib.Core.Path.{_≡_, refl, ap, _∙_}
 use mathlib.Core.Bool.{Bool, true, false, cond, _&&_}
-use mathlib.Core.List.{List, [], _∷_, _++_}
-use Prim.Native.Nat.{ℕ, _+_, _<_, _≤_}
+use mathlib.Core.List.{List}
+use Prim.Native.Nat.{ℕ, _<_, _≤_}
 use native.Mathlib.Omega.{arith}
-use lib.Dec.{eqb, ltb}
+use lib.Dec.{ltb}
 use lib.IntN.{ℤ, pos, negsuc, _-ℤ_}
-use lib.ListN.{length, getD, set}
+use lib.ListN.{length, set}
 use Rattle.std.specs.declared.result.Result.{Result}
-use Rattle.std.specs.declared.result.Result.the-variants.{Ok, Err}
-use Rattle.std.proofs.shelf.Lists.{getD-set-same, set-set, length-set}
-use Rattle.std.proofs.shelf.Tests.{cond-true, cond-false, lt-ltb, eq-eqb}
+use Rattle.std.specs.declared.result.Result.the-variants.{Ok}
+use Rattle.std.proofs.shelf.Lists.{getD-set-same, set-set}
+use Rattle.std.proofs.shelf.Tests.{cond-true, lt-ltb, eq-eqb}
 use Rattle.elements.specs.Kinds.{ElementKind}
 use Rattle.elements.specs.declared.commands.Command.{Command}
 use Rattle.elements.specs.declared.commands.Reply.{Reply}
-use Rattle.elements.specs.declared.answers.StepAnswer.{StepAnswer}
-use Rattle.elements.specs.declared.answers.StepAnswer.the-variants.{Moved, SettledEnded}
 use Rattle.elements.specs.declared.refusals.Refusal.{Refusal}
 use Rattle.pieces.specs.declared.tray.records.Cell.{Cell}
 use Rattle.pieces.specs.declared.tray.records.Head.{Head}
@@ -23,7 +21,7 @@ use Rattle.pieces.specs.declared.tray.records.Try.{Try}
 use Rattle.pieces.specs.declared.tray.records.Next.{Next}
 use Rattle.pieces.specs.declared.tray.records.Seat.{Seat}
 use Rattle.pieces.specs.declared.tray.records.Seat.the-variants.{Empty, Loaded, HeadRead, CellRead, CellWritten, NeighbourRead, Ended}
-use Rattle.pieces.specs.TrayStates.{TrayState, cell-at, head-of, seat-at, with-seats, with-cells, with-head}
+use Rattle.pieces.specs.TrayStates.{TrayState, cell-at, head-of, with-seats, with-cells, with-head}
 use Rattle.pieces.specs.TrayAccess.{tick-eq, at-limit, helped-cells, next-of, unchanged, moved-head, limit-reply, done-reply, accessed}
 use Rattle.pieces.specs.TrayCalls.{step-outcome, take-outcome, take-at-seat}
 

@@ -12,7 +12,6 @@ use Rattle.std.specs.declared.alloc.Global.{Global}
 use Rattle.std.specs.declared.alloc.AllocError.{AllocError}
 use Rattle.std.specs.Of.Vec.{vec-items}
 use Rattle.elements.specs.Kinds.{ElementKind}
-use Rattle.pieces.specs.declared.tray.records.Cell.{Cell}
 use Rattle.pieces.specs.declared.tray.records.Seat.{Seat}
 use Rattle.pieces.specs.declared.tray.records.Seat.the-variants.{Empty, Loaded, HeadRead, CellRead, CellWritten, NeighbourRead, Ended}
 use Rattle.pieces.specs.TrayStates.{TrayState}

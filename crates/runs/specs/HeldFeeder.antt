@@ -1,6 +1,6 @@
 -- The run of the held feeder, and what is laid on and comes off in a run.
 use mathlib.Core.Path.{_≡_}
-use mathlib.Core.Bool.{Bool, cond}
+use mathlib.Core.Bool.{cond}
 use mathlib.Core.List.{List, [], _∷_, _++_}
 use Prim.Native.Nat.{ℕ}
 use lib.Dec.{eqb}
@@ -15,7 +15,6 @@ use Rattle.elements.specs.declared.answers.StepAnswer.the-variants.{Moved}
 use Rattle.elements.specs.Codes.{code-number}
 use Rattle.elements.specs.Kinds.{ElementKind}
 use Rattle.elements.specs.declared.commands.Command.{Command}
-use Rattle.elements.specs.declared.commands.Reply.{Reply}
 use Rattle.elements.specs.declared.commands.Code.the-variants.{Done, Popped}
 use Rattle.pieces.specs.TrayKinds.{tray-kind-number}
 use Rattle.pieces.specs.declared.tray.records.TrayKind.the-variants.{Push, Pop}

@@ -1,11 +1,10 @@
 // The run of the held feeder: it is held between reading a cell and writing it, while two others take the slip that
 // it saw off the tray and lay newer ones on. Its late write must not land on a newer slip.
 ghost use mathlib.Core.Path.{_≡_};
-ghost use mathlib.Core.List.{List, _++_};
 ghost use Rattle.std.specs.Of.Vec.{vec-items};
 ghost use Rattle.std.specs.Vec.{made};
 ghost use Rattle.elements.specs.Kinds.{slip-kind};
-ghost use Rattle.runs.specs.HeldFeeder.{push, pop, tried, whole, held, resumed, before-late, held-feeder, EachOnce};
+ghost use Rattle.runs.specs.HeldFeeder.{push, pop, whole, held, resumed, before-late, held-feeder, EachOnce};
 use crate::events::Call;
 use crate::events::Event;
 use crate::play::play;

@@ -3,6 +3,5 @@ pub mod events;
 pub mod held_feeder;
 pub mod off;
 pub mod play;
-
 #[cfg(test)]
 mod tests;

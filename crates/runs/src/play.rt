@@ -1,7 +1,5 @@
 // Plays any list of calls of a tray.
 ghost use mathlib.Core.Path.{_≡_};
-ghost use mathlib.Core.List.{List};
-ghost use Prim.Native.Nat.{ℕ};
 ghost use Rattle.elements.specs.Outcomes.{Exactly};
 ghost use Rattle.pieces.specs.Trays.{tray-state};
 ghost use Rattle.pieces.specs.TrayAccess.{neighbour};

@@ -1,32 +1,61 @@
 // The worked runs of a tray of bins.
-use std::test::*;
-
-use elements::answers::{StepAnswerDebug, StepAnswerPartialEq};
-use elements::commands::{Command, Reply, ReplyDebug, ReplyPartialEq};
+use elements::answers::StepAnswerDebug;
+use elements::answers::StepAnswerPartialEq;
+use elements::commands::Command;
+use elements::commands::Reply;
+use elements::commands::ReplyDebug;
+use elements::commands::ReplyPartialEq;
 use elements::element::BinElement;
-use elements::kinds::{Bin, BinDebug, BinPartialEq};
-use elements::refusals::{Cause, Layer, Refusal, RefusalDebug, RefusalPartialEq};
+use elements::kinds::Bin;
+use elements::kinds::BinDebug;
+use elements::kinds::BinPartialEq;
+use elements::refusals::Cause;
+use elements::refusals::Layer;
+use elements::refusals::Refusal;
+use elements::refusals::RefusalDebug;
+use elements::refusals::RefusalPartialEq;
 use pieces::tray::Tray;
-use pieces::tray::records::{Cell, CellDebug, CellPartialEq, Head, HeadDebug, HeadPartialEq, Seat, TrayKind};
+use pieces::tray::records::Cell;
+use pieces::tray::records::CellDebug;
+use pieces::tray::records::CellPartialEq;
+use pieces::tray::records::Head;
+use pieces::tray::records::HeadDebug;
+use pieces::tray::records::HeadPartialEq;
+use pieces::tray::records::Seat;
+use pieces::tray::records::TrayKind;
+use std::test::*;
 
 fn bin(number: u16) -> Bin {
     Bin { number }
 }
 
 fn cell(number: u16, tick: i64) -> Cell<Bin> {
-    Cell { element: bin(number), tick }
+    Cell {
+        element: bin(number),
+        tick,
+    }
 }
 
 fn head(index: usize, number: u16, tick: i64) -> Head<Bin> {
-    Head { index, element: bin(number), tick }
+    Head {
+        index,
+        element: bin(number),
+        tick,
+    }
 }
 
 fn push(number: u16) -> Command<Bin> {
-    Command { kind: TrayKind::Push.number(), element: bin(number) }
+    Command {
+        kind: TrayKind::Push.number(),
+        element: bin(number),
+    }
 }
 
 fn pop() -> Command<Bin> {
-    Command { kind: TrayKind::Pop.number(), element: bin(0) }
+    Command {
+        kind: TrayKind::Pop.number(),
+        element: bin(0),
+    }
 }
 
 // A Step for each of the answers, which must be given in their order.
@@ -39,11 +68,24 @@ fn steps(tray: &mut Tray<Bin>, worker: usize, answers: &[u8]) -> Result<(), Fail
 }
 
 // A whole call: its answers, and its reply.
-fn call(tray: &mut Tray<Bin>, worker: usize, command: Command<Bin>, answers: &[u8], code: u8, number: u16) -> Result<(), Fail> {
+fn call(
+    tray: &mut Tray<Bin>,
+    worker: usize,
+    command: Command<Bin>,
+    answers: &[u8],
+    code: u8,
+    number: u16,
+) -> Result<(), Fail> {
     tray.seat(worker, command)?;
     steps(tray, worker, answers)?;
     let reply = tray.take(worker)?;
-    check_eq(reply, Reply { code, element: bin(number) })
+    check_eq(
+        reply,
+        Reply {
+            code,
+            element: bin(number),
+        },
+    )
 }
 
 const UNDISTURBED: [u8; 5] = [1, 1, 1, 1, 3];
@@ -77,7 +119,13 @@ fn a_push_and_a_pop_stand_off_another_push() -> Result<(), Fail> {
     steps(&mut tray, 0, &[5])?;
     check_eq(tray.head(), Some(head(0, 0, 1)))?;
     let reply = tray.take(0)?;
-    check_eq(reply, Reply { code: 9, element: bin(0) })
+    check_eq(
+        reply,
+        Reply {
+            code: 9,
+            element: bin(0),
+        },
+    )
 }
 
 #[test]
@@ -108,7 +156,13 @@ fn a_push_that_settled_full_stays_full() -> Result<(), Fail> {
     call(&mut tray, 1, pop(), &UNDISTURBED, 3, 3)?;
     steps(&mut tray, 0, &[1, 4])?;
     let reply = tray.take(0)?;
-    check_eq(reply, Reply { code: 2, element: bin(0) })
+    check_eq(
+        reply,
+        Reply {
+            code: 2,
+            element: bin(0),
+        },
+    )
 }
 
 #[test]
@@ -117,7 +171,10 @@ fn strips_too_short_hold_no_worker() -> Result<(), Fail> {
     let mut heads = [head(9, 9, 9); 1];
     let mut seats = [Seat::Loaded(push(1)); 2];
     let mut tray = Tray::new(&mut cells, &mut heads, &mut seats);
-    let nobody = Refusal { layer: Layer::Piece, cause: Cause::NoSuchWorker };
+    let nobody = Refusal {
+        layer: Layer::Piece,
+        cause: Cause::NoSuchWorker,
+    };
     check_eq(tray.workers(), 0)?;
     check_eq(tray.seat(0, push(1)), Err(nobody))?;
     check_eq(tray.step(0), Err(nobody))?;

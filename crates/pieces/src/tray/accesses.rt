@@ -1,24 +1,21 @@
 // The accesses of a try, each to one strip, and what a tray's strips are made of.
 ghost use mathlib.Core.Path.{_≡_};
-ghost use mathlib.Core.Bool.{Bool, true, false, cond};
-ghost use Prim.Native.Nat.{ℕ, _+_, _-_, _<_, _≤_};
-ghost use lib.ListN.{length, getD, set};
-ghost use lib.IntN.{ℤ, pos, negsuc, _+ℤ_};
+ghost use mathlib.Core.Bool.{cond};
+ghost use Prim.Native.Nat.{_+_, _-_, _<_, _≤_};
+ghost use lib.ListN.{length, set};
+ghost use lib.IntN.{ℤ, pos, negsuc};
 ghost use lib.Signed.{_≤ℤ_};
 ghost use Rattle.elements.specs.declared.refusals.Layer.the-variants.{Piece};
-ghost use Rattle.std.specs.declared.result.Result.the-variants.{Ok, Err};
-ghost use Rattle.pieces.specs.TrayKinds.{is-push, tray-kind-number};
+ghost use Rattle.std.specs.declared.result.Result.the-variants.{Err};
 ghost use Rattle.pieces.specs.TrayStates.{cell-at, head-of, seat-at};
-ghost use mathlib.Core.List.{List};
 ghost use Rattle.pieces.specs.declared.tray.records.Seat.the-variants.{Empty};
-ghost use Rattle.pieces.specs.TrayKinds.{tray-knows};
 ghost use Rattle.pieces.specs.TrayCalls.{filled, new-cells, new-heads, enough};
-ghost use Rattle.pieces.specs.TrayAccess.{tick-eq, at-limit, settled-early, neighbour, limit-reply, done-reply, helps, helped-cells, next-of, unchanged, moved-head};
+ghost use Rattle.pieces.specs.TrayAccess.{at-limit, neighbour, limit-reply, done-reply, helped-cells, next-of, unchanged, moved-head};
+use crate::tray::kinds::pushes;
 use crate::tray::records::Cell;
 use crate::tray::records::Head;
 use crate::tray::records::Next;
 use crate::tray::records::Seat;
-use crate::tray::records::TrayKind;
 use crate::tray::records::Try;
 use elements::commands::Code;
 use elements::commands::Command;
@@ -28,26 +25,8 @@ use elements::refusals::Cause;
 use elements::refusals::Layer;
 use elements::refusals::Refusal;
 
-impl TrayKind {
-    pub fn number(self) -> u8
-        ensures { λ r. ⌜ r ≡ tray-kind-number self ⌝ }
-    {
-        match self {
-            TrayKind::Push => 1,
-            TrayKind::Pop => 2,
-        }
-    }
-}
-
-// Whether a command that was seated is a push; if not, it is a pop.
-fn pushes<E: Element>(command: Command<E>) -> bool
-    ensures { λ r. ⌜ r ≡ is-push command ⌝ }
-{
-    command.kind == TrayKind::Push.number()
-}
-
 // Whether a tray of `room` places with this head is full for a push, or empty for a pop.
-pub fn limits<E: Element>(room: usize, head: Head<E>, command: Command<E>) -> bool
+pub(super) fn limits<E: Element>(room: usize, head: Head<E>, command: Command<E>) -> bool
     ensures { λ r. ⌜ r ≡ at-limit room head command ⌝ }
 {
     if pushes(command) {
@@ -58,7 +37,7 @@ pub fn limits<E: Element>(room: usize, head: Head<E>, command: Command<E>) -> bo
 }
 
 // Access 1: reads the head.
-pub fn read_head<E: Element>(heads: &[Head<E>]) -> Head<E>
+pub(super) fn read_head<E: Element>(heads: &[Head<E>]) -> Head<E>
     requires { ⌜ 0 < length (now heads) ⌝ }
     ensures { λ r. ⌜ r ≡ head-of (E·Element .kind .blank) (now (heads .entry)) ⌝ }
 {
@@ -70,15 +49,18 @@ pub fn read_head<E: Element>(heads: &[Head<E>]) -> Head<E>
 }
 
 // Reads a whole cell: no access of a try, but to show it.
-pub fn read_cell<E: Element>(cells: &[Cell<E>], index: usize) -> Cell<E>
+pub(super) fn read_cell<E: Element>(cells: &[Cell<E>], index: usize) -> Cell<E>
     requires { ⌜ index < length (now cells) ⌝ }
     ensures { λ r. ⌜ r ≡ cell-at (E·Element .kind .blank) (now (cells .entry)) index ⌝ }
 {
-    Cell { element: cells[index].element, tick: cells[index].tick }
+    Cell {
+        element: cells[index].element,
+        tick: cells[index].tick,
+    }
 }
 
 // Access 2: reads the element of a cell.
-pub fn read_element<E: Element>(cells: &[Cell<E>], index: usize) -> E
+pub(super) fn read_element<E: Element>(cells: &[Cell<E>], index: usize) -> E
     requires { ⌜ index < length (now cells) ⌝ }
     ensures { λ r. ⌜ r ≡ cell-at (E·Element .kind .blank) (now (cells .entry)) index .element ⌝ }
 {
@@ -87,7 +69,7 @@ pub fn read_element<E: Element>(cells: &[Cell<E>], index: usize) -> E
 
 // Access 3: helps. If the cell is as access 2 read it, and one tick behind the top that the try saw, the top is
 // written into it.
-pub fn write_cell<E: Element>(cells: &mut [Cell<E>], attempt: Try<E>, element: E)
+pub(super) fn write_cell<E: Element>(cells: &mut [Cell<E>], attempt: Try<E>, element: E)
     requires index { ⌜ attempt .head .index < length (now cells) ⌝ }
     requires tick { ⌜ negsuc 0 ≤ℤ attempt .head .tick ⌝ }
     ensures { λ _. ⌜ now (cells .exit) ≡ helped-cells (E·Element .kind) (now (cells .entry)) attempt element ⌝ }
@@ -104,7 +86,7 @@ pub fn write_cell<E: Element>(cells: &mut [Cell<E>], attempt: Try<E>, element: E
 }
 
 // Access 4: reads the cell that the try will make the top.
-pub fn read_neighbour<E: Element>(cells: &[Cell<E>], attempt: Try<E>) -> Next<E>
+pub(super) fn read_neighbour<E: Element>(cells: &[Cell<E>], attempt: Try<E>) -> Next<E>
     requires within { ⌜ neighbour attempt < length (now cells) ⌝ }
     requires apart { ⌜ (neighbour attempt ≡ attempt .head .index → ⊥) ⌝ }
     ensures { λ r. ⌜ r ≡ next-of (E·Element .kind) (now (cells .entry)) attempt ⌝ }
@@ -126,12 +108,12 @@ pub fn read_neighbour<E: Element>(cells: &[Cell<E>], attempt: Try<E>) -> Next<E>
 // Whether the head is still as the try saw it.
 fn stands<E: Element>(heads: &[Head<E>], attempt: Try<E>) -> bool
     requires { ⌜ 0 < length (now heads) ⌝ }
-    ensures {
-        λ r. ⌜ r ≡ unchanged (E·Element .kind) (head-of (E·Element .kind .blank) (now (heads .entry))) attempt ⌝
-    }
+    ensures { λ r. ⌜ r ≡ unchanged (E·Element .kind) (head-of (E·Element .kind .blank) (now (heads .entry))) attempt ⌝ }
 {
     let seen = attempt.head;
-    heads[0].index == seen.index && heads[0].tick == seen.tick && heads[0].element.same(seen.element)
+    heads[0].index == seen.index
+        && heads[0].tick == seen.tick
+        && heads[0].element.same(seen.element)
 }
 
 // The head that the try makes.
@@ -154,7 +136,7 @@ fn next_head<E: Element>(attempt: Try<E>, next: Next<E>) -> Head<E>
 }
 
 // Access 5: moves the head, if it is still as the try saw it, and says whether it did.
-pub fn write_head<E: Element>(heads: &mut [Head<E>], attempt: Try<E>, next: Next<E>) -> bool
+pub(super) fn write_head<E: Element>(heads: &mut [Head<E>], attempt: Try<E>, next: Next<E>) -> bool
     requires long { ⌜ 0 < length (now heads) ⌝ }
     requires index { ⌜ attempt .head .index ≤ 1024 ⌝ }
     requires apart { ⌜ (neighbour attempt ≡ attempt .head .index → ⊥) ⌝ }
@@ -170,7 +152,7 @@ pub fn write_head<E: Element>(heads: &mut [Head<E>], attempt: Try<E>, next: Next
 }
 
 // The reply of a try that found the tray at its limit.
-pub fn limit_reply<E: Element>(command: Command<E>) -> Reply<E>
+pub(super) fn limit_reply<E: Element>(command: Command<E>) -> Reply<E>
     ensures { λ r. ⌜ r ≡ limit-reply (E·Element .kind) command ⌝ }
 {
     let code = if pushes(command) {
@@ -185,7 +167,7 @@ pub fn limit_reply<E: Element>(command: Command<E>) -> Reply<E>
 }
 
 // The reply of a try that moved the head.
-pub fn done_reply<E: Element>(attempt: Try<E>) -> Reply<E>
+pub(super) fn done_reply<E: Element>(attempt: Try<E>) -> Reply<E>
     ensures { λ r. ⌜ r ≡ done-reply (E·Element .kind) attempt ⌝ }
 {
     if pushes(attempt.command) {
@@ -201,21 +183,14 @@ pub fn done_reply<E: Element>(attempt: Try<E>) -> Reply<E>
     }
 }
 
-// Whether a tray knows commands of this kind.
-pub fn knows(kind: u8) -> bool
-    ensures { λ r. ⌜ r ≡ tray-knows kind ⌝ }
-{
-    kind == TrayKind::Push.number() || kind == TrayKind::Pop.number()
-}
-
-pub fn read_seat<E: Element>(seats: &[Seat<E>], worker: usize) -> Seat<E>
+pub(super) fn read_seat<E: Element>(seats: &[Seat<E>], worker: usize) -> Seat<E>
     requires { ⌜ worker < length (now seats) ⌝ }
     ensures { λ r. ⌜ r ≡ seat-at (now (seats .entry)) worker ⌝ }
 {
     seats[worker]
 }
 
-pub fn write_seat<E: Element>(seats: &mut [Seat<E>], worker: usize, seat: Seat<E>)
+pub(super) fn write_seat<E: Element>(seats: &mut [Seat<E>], worker: usize, seat: Seat<E>)
     requires { ⌜ worker < length (now seats) ⌝ }
     ensures { λ _. ⌜ now (seats .exit) ≡ set (now (seats .entry)) worker seat ⌝ }
 {
@@ -223,7 +198,7 @@ pub fn write_seat<E: Element>(seats: &mut [Seat<E>], worker: usize, seat: Seat<E
 }
 
 // Empties the first `count` seats.
-pub fn empty_seats<E: Element>(seats: &mut [Seat<E>], count: usize)
+pub(super) fn empty_seats<E: Element>(seats: &mut [Seat<E>], count: usize)
     requires { ⌜ count ≤ length (now seats) ⌝ }
     ensures { λ _. ⌜ now (seats .exit) ≡ filled count Empty (now (seats .entry)) ⌝ }
 {
@@ -243,7 +218,7 @@ fn fill_cells<E: Element>(cells: &mut [Cell<E>], count: usize, cell: Cell<E>)
 }
 
 // The cells of a new tray with `room` places.
-pub fn make_cells<E: Element>(cells: &mut [Cell<E>], room: usize)
+pub(super) fn make_cells<E: Element>(cells: &mut [Cell<E>], room: usize)
     requires { ⌜ room < length (now cells) ⌝ }
     ensures { λ _. ⌜ now (cells .exit) ≡ new-cells (E·Element .kind) room (now (cells .entry)) ⌝ }
 {
@@ -262,7 +237,7 @@ pub fn make_cells<E: Element>(cells: &mut [Cell<E>], room: usize)
 }
 
 // The head of a new tray.
-pub fn make_head<E: Element>(heads: &mut [Head<E>])
+pub(super) fn make_head<E: Element>(heads: &mut [Head<E>])
     requires { ⌜ 0 < length (now heads) ⌝ }
     ensures { λ _. ⌜ now (heads .exit) ≡ new-heads (E·Element .kind) (now (heads .entry)) ⌝ }
 {
@@ -274,14 +249,14 @@ pub fn make_head<E: Element>(heads: &mut [Head<E>])
 }
 
 // Whether strips of these lengths hold a tray.
-pub fn hold_tray<E: Element>(cells: &[Cell<E>], heads: &[Head<E>], seats: &[Seat<E>]) -> bool
+pub(super) fn hold_tray<E: Element>(cells: &[Cell<E>], heads: &[Head<E>], seats: &[Seat<E>]) -> bool
     ensures { λ r. ⌜ r ≡ enough (now (cells .entry)) (now (heads .entry)) (now (seats .entry)) ⌝ }
 {
     cells.len() > 1 && heads.len() > 0 && seats.len() > 0
 }
 
 // A refusal of a tray.
-pub fn refuse<T>(cause: Cause) -> Result<T, Refusal>
+pub(super) fn refuse<T>(cause: Cause) -> Result<T, Refusal>
     ensures { λ r. ⌜ r ≡ Err (record { layer = Piece; cause = cause }) ⌝ }
 {
     Err(Refusal {

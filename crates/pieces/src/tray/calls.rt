@@ -1,8 +1,10 @@
 // The calls of a tray. Each says exactly what it answers and what it leaves, refused or not.
 ghost use mathlib.Core.Path.{_≡_};
+ghost use mathlib.Core.List.{[]};
 ghost use Rattle.elements.specs.Outcomes.{Exactly};
 ghost use Rattle.pieces.specs.TrayCalls.{seat-outcome, step-outcome, take-outcome, clear-outcome, made-tray};
 ghost use Rattle.pieces.specs.TrayShown.{shown-head, shown-cell, shown-seat};
+ghost use Rattle.pieces.specs.TrayStates.{tray-content};
 ghost use Rattle.pieces.specs.Trays.{tray-state};
 use crate::tray::Tray;
 use crate::tray::records::Cell;
@@ -24,7 +26,8 @@ impl<'a, E: Element> Tray<'a, E> {
         heads: &'a mut [Head<E>],
         seats: &'a mut [Seat<E>],
     ) -> Tray<'a, E>
-        ensures { λ r. ⌜ tray-state r ≡ made-tray (E·Element .kind) (now (cells .entry)) (now (heads .entry)) (now (seats .entry)) ⌝ }
+        ensures made { λ r. ⌜ tray-state r ≡ made-tray (E·Element .kind) (now (cells .entry)) (now (heads .entry)) (now (seats .entry)) ⌝ }
+        ensures empty { λ r. ⌜ tray-content (E·Element .kind .blank) (tray-state r) ≡ [] ⌝ }
     {
         Tray {
             strips: Strips::new(cells, heads, seats),

@@ -1,11 +1,10 @@
 // A tray in the three strips that its caller lends: what each call does, for a tray within its bounds.
 ghost use mathlib.Core.Path.{_≡_};
-ghost use mathlib.Core.Bool.{Bool, cond};
-ghost use Prim.Native.Nat.{ℕ, _+_, _<_, _≤_};
+ghost use Prim.Native.Nat.{_+_, _<_, _≤_};
 ghost use lib.ListN.{length};
 ghost use lib.IntN.{pos, negsuc};
 ghost use lib.Signed.{_≤ℤ_};
-ghost use Rattle.std.specs.declared.result.Result.the-variants.{Ok, Err};
+ghost use Rattle.std.specs.declared.result.Result.the-variants.{Ok};
 ghost use Rattle.pieces.specs.TrayStates.{head-of, cell-at, seat-at};
 ghost use Rattle.pieces.specs.TrayAccess.{neighbour, next-of, accessed};
 ghost use Rattle.pieces.specs.TrayBounds.{Bounded};
@@ -14,23 +13,8 @@ ghost use Rattle.pieces.specs.TrayCalls.{seat-outcome, step-outcome, take-outc
 ghost use Rattle.pieces.specs.TrayShown.{shown-head, shown-cell, shown-seat};
 ghost use Rattle.pieces.specs.TrayStrips.{state-of};
 ghost use Rattle.pieces.specs.declared.tray.records.Seat.the-variants.{Loaded, HeadRead, CellRead, CellWritten, NeighbourRead};
-use crate::tray::accesses::done_reply;
-use crate::tray::accesses::empty_seats;
-use crate::tray::accesses::hold_tray;
-use crate::tray::accesses::knows;
-use crate::tray::accesses::limit_reply;
-use crate::tray::accesses::limits;
-use crate::tray::accesses::make_cells;
-use crate::tray::accesses::make_head;
-use crate::tray::accesses::read_cell;
-use crate::tray::accesses::read_element;
-use crate::tray::accesses::read_head;
-use crate::tray::accesses::read_neighbour;
-use crate::tray::accesses::read_seat;
-use crate::tray::accesses::refuse;
-use crate::tray::accesses::write_cell;
-use crate::tray::accesses::write_head;
-use crate::tray::accesses::write_seat;
+use crate::tray::accesses::*;
+use crate::tray::kinds::knows;
 use crate::tray::records::Cell;
 use crate::tray::records::Head;
 use crate::tray::records::Next;
@@ -45,7 +29,7 @@ use elements::refusals::Cause;
 use elements::refusals::Refusal;
 
 #[derive(Drop)]
-pub struct Strips<'a, E: Element> {
+pub(super) struct Strips<'a, E: Element> {
     cells: &'a mut [Cell<E>],
     heads: &'a mut [Head<E>],
     seats: &'a mut [Seat<E>],
@@ -84,7 +68,7 @@ impl<'a, E: Element> Strips<'a, E> {
         read_neighbour(self.cells, attempt)
     }
 
-    // Access 1 of worker's try.
+    // Access 1 of the worker's try.
     fn access_head(&mut self, worker: usize, command: Command<E>) -> StepAnswer
         requires seat { ⌜ worker < length (now (now self .seats)) ⌝ }
         requires heads { ⌜ 0 < length (now (now self .heads)) ⌝ }
@@ -162,7 +146,7 @@ impl<'a, E: Element> Strips<'a, E> {
     }
 
     // One access of the worker's try.
-    pub fn step(&mut self, worker: usize) -> Result<StepAnswer, Refusal>
+    pub(super) fn step(&mut self, worker: usize) -> Result<StepAnswer, Refusal>
         requires { ⌜ Bounded (E·Element .kind .blank) (state-of (now self)) ⌝ }
         ensures { λ r. ⌜ Exactly r (state-of (now (self .exit))) (step-outcome (E·Element .kind) (state-of (now (self .entry))) worker) ⌝ }
     {
@@ -203,7 +187,7 @@ impl<'a, E: Element> Strips<'a, E> {
     }
 
     // Seats a command.
-    pub fn seat(&mut self, worker: usize, command: Command<E>) -> Result<(), Refusal>
+    pub(super) fn seat(&mut self, worker: usize, command: Command<E>) -> Result<(), Refusal>
         requires { ⌜ now self .count ≤ length (now (now self .seats)) ⌝ }
         ensures { λ r. ⌜ Exactly r (state-of (now (self .exit))) (seat-outcome (state-of (now (self .entry))) worker command) ⌝ }
     {
@@ -217,7 +201,7 @@ impl<'a, E: Element> Strips<'a, E> {
     }
 
     // Takes a reply, or a command that no try has begun on.
-    pub fn take(&mut self, worker: usize) -> Result<Reply<E>, Refusal>
+    pub(super) fn take(&mut self, worker: usize) -> Result<Reply<E>, Refusal>
         requires { ⌜ now self .count ≤ length (now (now self .seats)) ⌝ }
         ensures { λ r. ⌜ Exactly r (state-of (now (self .exit))) (take-outcome (E·Element .kind) (state-of (now (self .entry))) worker) ⌝ }
     {
@@ -237,7 +221,7 @@ impl<'a, E: Element> Strips<'a, E> {
     }
 
     // Empties every seat.
-    pub fn clear(&mut self)
+    pub(super) fn clear(&mut self)
         requires { ⌜ now self .count ≤ length (now (now self .seats)) ⌝ }
         ensures { λ _. ⌜ state-of (now (self .exit)) ≡ clear-outcome (state-of (now (self .entry))) ⌝ }
     {
@@ -245,13 +229,13 @@ impl<'a, E: Element> Strips<'a, E> {
         empty_seats(self.seats, count);
     }
 
-    pub fn workers(&self) -> usize
+    pub(super) fn workers(&self) -> usize
         ensures { λ r. ⌜ r ≡ now (self .entry) .count ⌝ }
     {
         self.count
     }
 
-    pub fn head(&self) -> Option<Head<E>>
+    pub(super) fn head(&self) -> Option<Head<E>>
         requires { ⌜ Bounded (E·Element .kind .blank) (state-of (now self)) ⌝ }
         ensures { λ r. ⌜ r ≡ shown-head (E·Element .kind .blank) (state-of (now (self .entry))) ⌝ }
     {
@@ -262,7 +246,7 @@ impl<'a, E: Element> Strips<'a, E> {
         }
     }
 
-    pub fn cell(&self, index: usize) -> Option<Cell<E>>
+    pub(super) fn cell(&self, index: usize) -> Option<Cell<E>>
         requires { ⌜ Bounded (E·Element .kind .blank) (state-of (now self)) ⌝ }
         ensures { λ r. ⌜ r ≡ shown-cell (E·Element .kind .blank) (state-of (now (self .entry))) index ⌝ }
     {
@@ -273,7 +257,7 @@ impl<'a, E: Element> Strips<'a, E> {
         }
     }
 
-    pub fn seat_of(&self, worker: usize) -> Option<Seat<E>>
+    pub(super) fn seat_of(&self, worker: usize) -> Option<Seat<E>>
         requires { ⌜ now self .count ≤ length (now (now self .seats)) ⌝ }
         ensures { λ r. ⌜ r ≡ shown-seat (state-of (now (self .entry))) worker ⌝ }
     {
@@ -285,7 +269,7 @@ impl<'a, E: Element> Strips<'a, E> {
     }
 
     // A tray in three strips. Where they are too short for one, it has no worker, and nothing is written.
-    pub fn new(
+    pub(super) fn new(
         cells: &'a mut [Cell<E>],
         heads: &'a mut [Head<E>],
         seats: &'a mut [Seat<E>],

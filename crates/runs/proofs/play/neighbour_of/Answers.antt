@@ -1,9 +1,8 @@
 use mathlib.Core.Path.{_≡_, ap, _∙_}
-use mathlib.Core.Bool.{true, cond}
-use Prim.Native.Nat.{_+_, _-_, _<_, _≤_}
+use mathlib.Core.Bool.{cond}
+use Prim.Native.Nat.{_+_, _-_, _≤_}
 use native.Mathlib.Omega.{arith}
 use Rattle.std.proofs.shelf.Tests.{eq-eqb}
-use Rattle.pieces.specs.TrayKinds.{is-push}
 use Rattle.pieces.specs.TrayAccess.{neighbour}
 use Rattle.pieces.specs.Trays.{tray-state}
 use Rattle.pieces.proofs.Keeping.{known}

@@ -1,6 +1,4 @@
-use Rattle.pieces.specs.TrayStrips.{state-of}
-use Rattle.pieces.proofs.Bounds.{seat-bounded}
-use Rattle.pieces.proofs.Keeping.{known, keep}
+use Rattle.pieces.proofs.Keeping.{known, seat-keeps}
 use Rattle.pieces.proofs.tray.Tray.seat.Needs as need
 
 pub seat-requires : need.seat-requires
@@ -8,5 +6,4 @@ seat-requires g c κs = known (g .E·Element .kind .blank) (c .args .self .now .
 
 pub ghost-self : need.ghost-self
 ghost-self g c =
-    let before = known (g .E·Element .kind .blank) (c .args .self .now .strips) (c .args .self .now .bounded) in
-    (keep _ (c .seat .last .self) _ (c .seat .ensures .left) (seat-bounded _ (state-of (c .args .self .now .strips)) before (c .args .worker) (c .args .command)), tt)
+    (seat-keeps (g .E·Element .kind) (c .args .self .now .strips) (c .seat .last .self) (c .args .self .now .bounded) (c .args .worker) (c .args .command) (c .seat .ensures .left), tt)

@@ -1,6 +1,4 @@
-use Rattle.pieces.specs.TrayStrips.{state-of}
-use Rattle.pieces.proofs.Bounds.{take-bounded}
-use Rattle.pieces.proofs.Keeping.{known, keep}
+use Rattle.pieces.proofs.Keeping.{known, take-keeps}
 use Rattle.pieces.proofs.tray.Tray.take.Needs as need
 
 pub take-requires : need.take-requires
@@ -8,5 +6,4 @@ take-requires g c κs = known (g .E·Element .kind .blank) (c .args .self .now .
 
 pub ghost-self : need.ghost-self
 ghost-self g c =
-    let before = known (g .E·Element .kind .blank) (c .args .self .now .strips) (c .args .self .now .bounded) in
-    (keep _ (c .take .last .self) _ (c .take .ensures .left) (take-bounded _ (state-of (c .args .self .now .strips)) before (g .E·Element .kind) (c .args .worker)), tt)
+    (take-keeps (g .E·Element .kind) (c .args .self .now .strips) (c .take .last .self) (c .args .self .now .bounded) (c .args .worker) (c .take .ensures .left), tt)

@@ -1,5 +1,5 @@
 use mathlib.Core.Path.{sym, _∙_}
-use Rattle.pieces.proofs.Bounds.{tray-held}
+use Rattle.pieces.proofs.Making.{tray-held}
 use Rattle.pieces.proofs.tray.strips.Strips.new.Needs as need
 
 pub make-head-requires : need.make-head-requires

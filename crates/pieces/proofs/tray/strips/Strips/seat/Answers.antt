@@ -1,4 +1,4 @@
-use mathlib.Core.Path.{refl, sym, ap, subst, _∙_}
+use mathlib.Core.Path.{refl, subst}
 use Rattle.pieces.specs.declared.tray.records.Seat.the-variants.{Empty}
 use Rattle.pieces.specs.TrayStrips.{state-of}
 use Rattle.elements.specs.Outcomes.{Exactly}

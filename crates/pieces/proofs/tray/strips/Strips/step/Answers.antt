@@ -1,6 +1,6 @@
 use mathlib.Core.Path.{refl}
 use mathlib.Core.Logic.{inl, inr}
-use Rattle.pieces.specs.declared.tray.records.Seat.the-variants.{Empty, Loaded, HeadRead, CellRead, CellWritten, NeighbourRead, Ended}
+use Rattle.pieces.specs.declared.tray.records.Seat.the-variants.{Empty, HeadRead, CellRead, Ended}
 use Rattle.pieces.specs.TrayStrips.{state-of}
 use Rattle.pieces.specs.TrayAccess.{accessed}
 use Rattle.pieces.proofs.Calls.{answered, unknown, held, seat-ok, seat-within, cell-within, goes-within, moves-within}

@@ -1,4 +1,4 @@
-use mathlib.Core.Path.{_≡_, refl, sym, ap, subst, _∙_}
+use mathlib.Core.Path.{refl, ap, subst}
 use Rattle.std.specs.declared.result.Result.the-variants.{Ok}
 use Rattle.pieces.specs.declared.tray.records.Seat.the-variants.{Loaded, Ended}
 use Rattle.pieces.specs.TrayStates.{with-seats}
