@@ -8,10 +8,13 @@ use native.Mathlib.Omega.{arith}
 use native.Mathlib.Nat.{le-refl, le-of-suc-le-suc}
 use lib.ListN.{length, set, take, replicate}
 use lib.Dec.{ltb}
+use Rattle.std.specs.declared.option.Option.{Option}
+use Rattle.std.specs.declared.option.Option.the-variants.{Some, None}
 use Rattle.std.proofs.shelf.Lists.{length-set, length-take-le, getD-take, getD-set-same, getD-set-other}
 use Rattle.std.proofs.shelf.Tests.{cases-eq, ltb-true}
 use Rattle.elements.specs.Kinds.{ElementKind}
 use Rattle.elements.specs.declared.commands.Command.{Command}
+use Rattle.elements.specs.declared.commands.Reply.{Reply}
 use Rattle.pieces.specs.declared.tray.records.Cell.{Cell}
 use Rattle.pieces.specs.declared.tray.records.Head.{Head}
 use Rattle.pieces.specs.declared.tray.records.Try.{Try}
@@ -21,7 +24,7 @@ use Rattle.pieces.specs.declared.tray.records.Seat.the-variants.{Empty, Loaded
 use Rattle.pieces.specs.TrayKinds.{tray-knows}
 use Rattle.pieces.specs.TrayStates.{TrayState, cell-at, head-of, seat-at}
 use Rattle.pieces.specs.TrayAccess.{at-limit, settled-early, neighbour, helps, helped-cells, next-of, unchanged, moved-head, limit-reply, done-reply, accessed}
-use Rattle.pieces.specs.TrayCalls.{most-seatings, filled, seat-at-seat, seat-outcome, step-outcome, take-at-seat, take-outcome, clear-outcome}
+use Rattle.pieces.specs.TrayCalls.{most-seatings, filled, admitted, is-empty, seat-outcome, step-outcome, takeable, taken, take-outcome, clear-outcome}
 use Rattle.pieces.specs.TrayBounds.{unsettled, all-unsettled, TickOk, TryOk, SeatOk, Held, Bounded}
 use Rattle.pieces.proofs.Filling.{take-filled, length-filled, getD-filled}
 use Rattle.pieces.proofs.Ticks.{tick-kept, try-kept, seat-kept, tick-up, goes}
@@ -200,30 +203,19 @@ module _ {E : Type 0} (blank : E) (s : TrayState E) (b : Bounded blank s) (i : �
       (λ _. quiet (Loaded (t .command)) (s .seatings) (fewer (NeighbourRead t x) (Loaded (t .command)) at (le-refl 1)) (b .few) tt)
   access-bounded e f (Ended r) at o = b
 
-  -- taking from a seat
-  take-bounded-at : (e : ElementKind E) (q : Seat E) → seat-at (s .seats) i ≡ q → Bounded blank (take-at-seat e s i q .1)
-  take-bounded-at e Empty at = b
-  take-bounded-at e (Loaded c) at = quiet Empty (s .seatings) (fewer (Loaded c) Empty at zero-le) (b .few) tt
-  take-bounded-at e (HeadRead t) at = b
-  take-bounded-at e (CellRead t u) at = b
-  take-bounded-at e (CellWritten t) at = b
-  take-bounded-at e (NeighbourRead t x) at = b
-  take-bounded-at e (Ended r) at = quiet Empty (s .seatings) (fewer (Ended r) Empty at zero-le) (b .few) tt
+  -- what is taken from a seat leaves it empty
+  taken-bounded : (o : Option (Reply E)) → Bounded blank (taken s i o .1)
+  taken-bounded None = b
+  taken-bounded (Some r) = quiet Empty (s .seatings) (fewer (seat-at (s .seats) i) Empty refl zero-le) (b .few) tt
 
-  -- seating at a seat
-  seat-bounded-at : (c : Command E) (q : Seat E) → seat-at (s .seats) i ≡ q → Bounded blank (seat-at-seat s i c q .1)
-  seat-bounded-at c Empty at =
+  -- a command that is seated is one seating more
+  admitted-bounded : (c : Command E) → Bounded blank (admitted s i c .1)
+  admitted-bounded c =
       by-test blank (tray-knows (c .kind)) _ _
       (λ _. by-test blank (ltb (s .seatings) most-seatings) _ _
-      (λ f. quiet (Loaded c) (s .seatings + 1) (omega (arith, counted (Loaded c), ap (unsettled (s .room)) at)) (omega (arith, ltb-true (s .seatings) most-seatings f)) tt)
+      (λ f. quiet (Loaded c) (s .seatings + 1) (omega (arith, counted (Loaded c))) (omega (arith, ltb-true (s .seatings) most-seatings f)) tt)
       (λ _. b))
       (λ _. b)
-  seat-bounded-at c (Loaded c′) at = b
-  seat-bounded-at c (HeadRead t) at = b
-  seat-bounded-at c (CellRead t u) at = b
-  seat-bounded-at c (CellWritten t) at = b
-  seat-bounded-at c (NeighbourRead t x) at = b
-  seat-bounded-at c (Ended r) at = b
 
 pub none-unsettled : {E : Type 0} (k n : ℕ) (q : Seat E) → q ≡ Empty → all-unsettled k (replicate n q) ≡ 0
 none-unsettled k zero q e = refl
@@ -233,7 +225,7 @@ module _ {E : Type 0} (blank : E) (s : TrayState E) (b : Bounded blank s) where
   pub seat-bounded : (i : ℕ) (c : Command E) → Bounded blank (seat-outcome s i c .1)
   seat-bounded i c =
       by-test blank (ltb i (s .count)) _ _
-      (λ f. seat-bounded-at blank s b i (ltb-true i (s .count) f) c (seat-at (s .seats) i) refl) (λ _. b)
+      (λ f. by-test blank (is-empty (seat-at (s .seats) i)) _ _ (λ _. admitted-bounded blank s b i (ltb-true i (s .count) f) c) (λ _. b)) (λ _. b)
 
   pub step-bounded : (e : ElementKind E) → e .blank ≡ blank → (i : ℕ) → Bounded blank (step-outcome e s i .1)
   step-bounded e f i =
@@ -245,7 +237,7 @@ module _ {E : Type 0} (blank : E) (s : TrayState E) (b : Bounded blank s) where
   pub take-bounded : (e : ElementKind E) (i : ℕ) → Bounded blank (take-outcome e s i .1)
   take-bounded e i =
       by-test blank (ltb i (s .count)) _ _
-      (λ f. take-bounded-at blank s b i (ltb-true i (s .count) f) e (seat-at (s .seats) i) refl) (λ _. b)
+      (λ f. taken-bounded blank s b i (ltb-true i (s .count) f) (takeable e (seat-at (s .seats) i))) (λ _. b)
 
   abbrev left : ℕ
   left = all-unsettled (s .room) (take (s .count) (filled (s .count) Empty (s .seats)))

@@ -9,55 +9,35 @@ use lib.Signed.{_≤ℤ_}
 use Rattle.std.specs.declared.result.Result.{Result}
 use Rattle.std.specs.declared.result.Result.the-variants.{Err}
 use Rattle.std.proofs.shelf.Tests.{lt-ltb, le-ltb, cond-true, cond-false}
-use Rattle.elements.specs.Kinds.{ElementKind}
 use Rattle.elements.specs.Refusals.{refusal}
-use Rattle.elements.specs.declared.commands.Command.{Command}
-use Rattle.elements.specs.declared.commands.Reply.{Reply}
 use Rattle.elements.specs.declared.refusals.Refusal.{Refusal}
-use Rattle.elements.specs.declared.refusals.Cause.the-variants.{NoSuchWorker, NotIdle, NothingToTake}
+use Rattle.elements.specs.declared.refusals.Cause.the-variants.{NoSuchWorker}
 use Rattle.elements.specs.declared.refusals.Layer.the-variants.{Piece}
 use Rattle.pieces.specs.declared.tray.records.Try.{Try}
 use Rattle.pieces.specs.declared.tray.records.Next.{Next}
 use Rattle.pieces.specs.declared.tray.records.Seat.{Seat}
-use Rattle.pieces.specs.declared.tray.records.Seat.the-variants.{Empty, Loaded, HeadRead, CellRead, CellWritten, NeighbourRead, Ended}
+use Rattle.pieces.specs.declared.tray.records.Seat.the-variants.{CellWritten, NeighbourRead}
 use Rattle.pieces.specs.TrayStates.{TrayState, seat-at}
 use Rattle.pieces.specs.TrayAccess.{neighbour}
 use Rattle.elements.specs.Outcomes.{Exactly}
-use Rattle.pieces.specs.TrayCalls.{most-seatings, if-worker, seat-at-seat, take-at-seat}
+use Rattle.pieces.specs.TrayCalls.{most-seatings, if-worker}
 use Rattle.pieces.specs.TrayBounds.{all-unsettled, SeatOk, Held, Bounded}
 use Rattle.pieces.proofs.Ticks.{goes, tick-most}
 
 module _ {E R : Type 0} (s : TrayState E) (i : ℕ) {r : Result R Refusal} {x : TrayState E} where
   -- a worker that there is
-  pub answered : (f : Seat E → Result R Refusal × TrayState E) (q : Seat E) → i < s .count → q ≡ seat-at (s .seats) i
+  pub answered : (y : Result R Refusal × TrayState E) → i < s .count → Exactly r x y → Exactly r x (if-worker s i y)
+  answered y l o = subst (λ z. Exactly r x z) (sym (cond-true (ltb i (s .count)) y _ (lt-ltb i (s .count) l))) o
+
+  -- whose seat is q
+  pub answered-at : (f : Seat E → Result R Refusal × TrayState E) (q : Seat E) → i < s .count → q ≡ seat-at (s .seats) i
       → Exactly r x (f q) → Exactly r x (if-worker s i (f (seat-at (s .seats) i)))
-  answered f q l e o =
-      subst (λ y. Exactly r x y) (sym (cond-true (ltb i (s .count)) _ _ (lt-ltb i (s .count) l))) (subst (λ z. Exactly r x (f z)) e o)
+  answered-at f q l e o = answered (f (seat-at (s .seats) i)) l (subst (λ z. Exactly r x (f z)) e o)
 
   -- and one that there is not
   pub unknown : (y : Result R Refusal × TrayState E) → s .count ≤ i → r ≡ Err (refusal Piece 1 NoSuchWorker refl refl) → x ≡ s → Exactly r x (if-worker s i y)
   unknown y l e f =
       subst (λ z. Exactly r x z) (sym (cond-false (ltb i (s .count)) y _ (le-ltb i (s .count) l))) (record { answer = e; left = f })
-
-module _ {E : Type 0} (s : TrayState E) (i : ℕ) where
-  pub not-idle : (c : Command E) (q : Seat E) → (q ≡ Empty → ⊥) → (Err (refusal Piece 2 NotIdle refl refl), s) ≡ seat-at-seat s i c q
-  not-idle c Empty n = absurd (n refl)
-  not-idle c (Loaded c′) n = refl
-  not-idle c (HeadRead t) n = refl
-  not-idle c (CellRead t u) n = refl
-  not-idle c (CellWritten t) n = refl
-  not-idle c (NeighbourRead t x) n = refl
-  not-idle c (Ended r) n = refl
-
-  pub not-taken : (e : ElementKind E) (q : Seat E) → ((c : Command E) → q ≡ Loaded c → ⊥) → ((r : Reply E) → q ≡ Ended r → ⊥)
-      → (Err (refusal Piece 7 NothingToTake refl refl), s) ≡ take-at-seat e s i q
-  not-taken e Empty m n = refl
-  not-taken e (Loaded c) m n = absurd (m c refl)
-  not-taken e (HeadRead t) m n = refl
-  not-taken e (CellRead t u) m n = refl
-  not-taken e (CellWritten t) m n = refl
-  not-taken e (NeighbourRead t x) m n = refl
-  not-taken e (Ended r) m n = absurd (n r refl)
 
 module _ {E : Type 0} (blank : E) (s : TrayState E) (b : Bounded blank s) (i : ℕ) (l : i < s .count) where
   pub held : Held blank s (all-unsettled (s .room) (take (s .count) (s .seats)))

@@ -1,11 +1,13 @@
 -- The calls of a tray: what each answers and what it leaves, refused or not, as a function of the whole state before.
 use mathlib.Core.Path.{_≡_, refl}
-use mathlib.Core.Bool.{Bool, true, cond, _&&_}
+use mathlib.Core.Bool.{Bool, true, false, cond, _&&_}
 use mathlib.Core.List.{List, _++_}
 use Prim.Native.Nat.{ℕ, _+_, _-_, min}
 use lib.Dec.{ltb}
 use lib.ListN.{length, set, drop, replicate}
 use lib.IntN.{pos, negsuc}
+use Rattle.std.specs.declared.option.Option.{Option}
+use Rattle.std.specs.declared.option.Option.the-variants.{Some, None}
 use Rattle.std.specs.declared.result.Result.{Result}
 use Rattle.std.specs.declared.result.Result.the-variants.{Ok, Err}
 use Rattle.elements.specs.Kinds.{ElementKind}
@@ -55,19 +57,28 @@ module _ {E : Type 0} where
       (cond (ltb (s .seatings) most-seatings) (Ok tt, loaded s i c) (refused s 5 NoSeatingsLeft refl refl))
       (refused s 4 UnknownKind refl refl)
 
-  -- Seat at the worker's seat
-  abbrev pub seat-at-seat : TrayState E → ℕ → Command E → Seat E → Result (Unit {0}) Refusal × TrayState E
-  seat-at-seat s i c Empty = admitted s i c
-  seat-at-seat s i c (Loaded c′) = refused s 2 NotIdle refl refl
-  seat-at-seat s i c (HeadRead t) = refused s 2 NotIdle refl refl
-  seat-at-seat s i c (CellRead t u) = refused s 2 NotIdle refl refl
-  seat-at-seat s i c (CellWritten t) = refused s 2 NotIdle refl refl
-  seat-at-seat s i c (NeighbourRead t x) = refused s 2 NotIdle refl refl
-  seat-at-seat s i c (Ended r) = refused s 2 NotIdle refl refl
+  -- is a seat empty?
+  abbrev pub is-empty : Seat E → Bool
+  is-empty Empty = true
+  is-empty (Loaded c) = false
+  is-empty (HeadRead t) = false
+  is-empty (CellRead t u) = false
+  is-empty (CellWritten t) = false
+  is-empty (NeighbourRead t x) = false
+  is-empty (Ended r) = false
+
+  -- Seat at the worker's seat q
+  abbrev pub seated : TrayState E → ℕ → Command E → Seat E → Result (Unit {0}) Refusal × TrayState E
+  seated s i c q = cond (is-empty q) (admitted s i c) (refused s 2 NotIdle refl refl)
 
   -- Seat
   abbrev pub seat-outcome : TrayState E → ℕ → Command E → Result (Unit {0}) Refusal × TrayState E
-  seat-outcome s i c = if-worker s i (seat-at-seat s i c (seat-at (s .seats) i))
+  seat-outcome s i c = if-worker s i (seated s i c (seat-at (s .seats) i))
+
+  -- Take at a seat that gives this, or nothing; it empties the seat
+  abbrev pub taken : TrayState E → ℕ → Option (Reply E) → Result (Reply E) Refusal × TrayState E
+  taken s i None = refused s 7 NothingToTake refl refl
+  taken s i (Some r) = (Ok r, with-seat s i Empty)
 
   -- Clear
   abbrev pub clear-outcome : TrayState E → TrayState E
@@ -82,19 +93,19 @@ module _ {E : Type 0} (e : ElementKind E) where
   abbrev pub step-outcome : TrayState E → ℕ → Result StepAnswer Refusal × TrayState E
   step-outcome s i = if-worker s i (accessed e s i (seat-at (s .seats) i))
 
-  -- Take at the worker's seat
-  abbrev pub take-at-seat : TrayState E → ℕ → Seat E → Result (Reply E) Refusal × TrayState E
-  take-at-seat s i Empty = refused s 7 NothingToTake refl refl
-  take-at-seat s i (Loaded c) = (Ok (reply StoodOff (e .blank)), with-seat s i Empty)
-  take-at-seat s i (HeadRead t) = refused s 7 NothingToTake refl refl
-  take-at-seat s i (CellRead t u) = refused s 7 NothingToTake refl refl
-  take-at-seat s i (CellWritten t) = refused s 7 NothingToTake refl refl
-  take-at-seat s i (NeighbourRead t x) = refused s 7 NothingToTake refl refl
-  take-at-seat s i (Ended r) = (Ok r, with-seat s i Empty)
+  -- what can be taken from a seat: the reply of an ended one; from a loaded one, that its call was stood off
+  abbrev pub takeable : Seat E → Option (Reply E)
+  takeable Empty = None
+  takeable (Loaded c) = Some (reply StoodOff (e .blank))
+  takeable (HeadRead t) = None
+  takeable (CellRead t u) = None
+  takeable (CellWritten t) = None
+  takeable (NeighbourRead t x) = None
+  takeable (Ended r) = Some r
 
   -- Take
   abbrev pub take-outcome : TrayState E → ℕ → Result (Reply E) Refusal × TrayState E
-  take-outcome s i = if-worker s i (take-at-seat s i (seat-at (s .seats) i))
+  take-outcome s i = if-worker s i (taken s i (takeable (seat-at (s .seats) i)))
 
   -- the cells of a new tray with k places: cell 0 is one tick behind
   abbrev pub new-cells : ℕ → List (Cell E) → List (Cell E)

@@ -23,7 +23,7 @@ use Rattle.pieces.specs.declared.tray.records.Seat.{Seat}
 use Rattle.pieces.specs.declared.tray.records.Seat.the-variants.{Empty, Loaded, HeadRead, CellRead, CellWritten, NeighbourRead, Ended}
 use Rattle.pieces.specs.TrayStates.{TrayState, cell-at, head-of, with-seats, with-cells, with-head}
 use Rattle.pieces.specs.TrayAccess.{tick-eq, at-limit, helped-cells, next-of, unchanged, moved-head, limit-reply, done-reply, accessed}
-use Rattle.pieces.specs.TrayCalls.{step-outcome, take-outcome, take-at-seat}
+use Rattle.pieces.specs.TrayCalls.{step-outcome, take-outcome, takeable, taken}
 
 -- a Step of worker i
 abbrev pub stepped : {E : Type 0} → ElementKind E → ℕ → TrayState E → TrayState E
@@ -118,10 +118,10 @@ module _ {E : Type 0} (e : ElementKind E) (s : TrayState E) (i : ℕ) (l : i < s
         ap (λ y. y .1) (step-at cells′ (NeighbourRead t n) ∙ cond-true (unchanged e h t) _ _ same-head)
         ∙ ap (with-seats (with-head (with-cells s cells′) (moved-head e t n))) (set-set (s .seats) i (NeighbourRead t n) (Ended (done-reply e t)))
 
-    taken : take-outcome e (moved (Ended (done-reply e t))) i ≡ (Ok (done-reply e t), solo-state)
-    taken =
+    took : take-outcome e (moved (Ended (done-reply e t))) i ≡ (Ok (done-reply e t), solo-state)
+    took =
         cond-true (ltb i (s .count)) _ _ (lt-ltb i (s .count) l)
-        ∙ ap (take-at-seat e (moved (Ended (done-reply e t))) i) (getD-set-same (s .seats) i (Ended (done-reply e t)) Empty within)
+        ∙ ap (λ q. taken (moved (Ended (done-reply e t))) i (takeable e q)) (getD-set-same (s .seats) i (Ended (done-reply e t)) Empty within)
         ∙ ap (λ ss. (Ok (done-reply e t), with-seats (with-head (with-cells s cells′) (moved-head e t n)) ss)) (set-set (s .seats) i (Ended (done-reply e t)) Empty)
 
     -- the reply of the try, and the state that it leaves
@@ -133,4 +133,4 @@ module _ {E : Type 0} (e : ElementKind E) (s : TrayState E) (i : ℕ) (l : i < s
         ∙ ap (λ z. stepped e i (stepped e i z)) access-3
         ∙ ap (stepped e i) access-4
         ∙ access-5)
-        ∙ taken
+        ∙ took

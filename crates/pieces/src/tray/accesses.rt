@@ -9,7 +9,7 @@ ghost use Rattle.elements.specs.declared.refusals.Layer.the-variants.{Piece};
 ghost use Rattle.std.specs.declared.result.Result.the-variants.{Err};
 ghost use Rattle.pieces.specs.TrayStates.{cell-at, head-of, seat-at};
 ghost use Rattle.pieces.specs.declared.tray.records.Seat.the-variants.{Empty};
-ghost use Rattle.pieces.specs.TrayCalls.{filled, new-cells, new-heads, enough};
+ghost use Rattle.pieces.specs.TrayCalls.{filled, is-empty, takeable, new-cells, new-heads, enough};
 ghost use Rattle.pieces.specs.TrayAccess.{at-limit, neighbour, limit-reply, done-reply, helped-cells, next-of, unchanged, moved-head};
 use crate::tray::kinds::pushes;
 use crate::tray::records::Cell;
@@ -195,6 +195,27 @@ pub(super) fn write_seat<E: Element>(seats: &mut [Seat<E>], worker: usize, seat:
     ensures { λ _. ⌜ now (seats .exit) ≡ set (now (seats .entry)) worker seat ⌝ }
 {
     seats[worker] = seat;
+}
+
+// Whether a seat is empty.
+pub(super) fn idle<E: Element>(seat: Seat<E>) -> bool
+    ensures { λ r. ⌜ r ≡ is-empty seat ⌝ }
+{
+    matches!(seat, Seat::Empty)
+}
+
+// What can be taken from a seat.
+pub(super) fn reply_in<E: Element>(seat: Seat<E>) -> Option<Reply<E>>
+    ensures { λ r. ⌜ r ≡ takeable (E·Element .kind) seat ⌝ }
+{
+    match seat {
+        Seat::Loaded(_) => Some(Reply {
+            code: Code::StoodOff.number(),
+            element: E::blank(),
+        }),
+        Seat::Ended(reply) => Some(reply),
+        _ => None,
+    }
 }
 
 // Empties the first `count` seats.

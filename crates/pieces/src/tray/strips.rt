@@ -9,7 +9,7 @@ ghost use Rattle.pieces.specs.TrayStates.{head-of, cell-at, seat-at};
 ghost use Rattle.pieces.specs.TrayAccess.{neighbour, next-of, accessed};
 ghost use Rattle.pieces.specs.TrayBounds.{Bounded};
 ghost use Rattle.elements.specs.Outcomes.{Exactly};
-ghost use Rattle.pieces.specs.TrayCalls.{seat-outcome, step-outcome, take-outcome, clear-outcome, made-tray, loaded, admitted};
+ghost use Rattle.pieces.specs.TrayCalls.{seat-outcome, step-outcome, take-outcome, clear-outcome, made-tray, loaded, admitted, seated, takeable, taken};
 ghost use Rattle.pieces.specs.TrayShown.{shown-head, shown-cell, shown-seat};
 ghost use Rattle.pieces.specs.TrayStrips.{state-of};
 ghost use Rattle.pieces.specs.declared.tray.records.Seat.the-variants.{Loaded, HeadRead, CellRead, CellWritten, NeighbourRead};
@@ -21,7 +21,6 @@ use crate::tray::records::Next;
 use crate::tray::records::Seat;
 use crate::tray::records::Try;
 use elements::answers::StepAnswer;
-use elements::commands::Code;
 use elements::commands::Command;
 use elements::commands::Reply;
 use elements::element::Element;
@@ -186,6 +185,16 @@ impl<'a, E: Element> Strips<'a, E> {
         Ok(())
     }
 
+    fn seat_idle(&mut self, worker: usize, command: Command<E>) -> Result<(), Refusal>
+        requires { ⌜ worker < length (now (now self .seats)) ⌝ }
+        ensures { λ r. ⌜ Exactly r (state-of (now (self .exit))) (seated (state-of (now (self .entry))) worker command (seat-at (now (now (self .entry) .seats)) worker)) ⌝ }
+    {
+        if !idle(self.occupant(worker)) {
+            return refuse(Cause::NotIdle);
+        }
+        self.admit(worker, command)
+    }
+
     // Seats a command.
     pub(super) fn seat(&mut self, worker: usize, command: Command<E>) -> Result<(), Refusal>
         requires { ⌜ now self .count ≤ length (now (now self .seats)) ⌝ }
@@ -194,9 +203,19 @@ impl<'a, E: Element> Strips<'a, E> {
         if worker >= self.count {
             return refuse(Cause::NoSuchWorker);
         }
-        match self.occupant(worker) {
-            Seat::Empty => self.admit(worker, command),
-            _ => refuse(Cause::NotIdle),
+        self.seat_idle(worker, command)
+    }
+
+    fn take_reply(&mut self, worker: usize) -> Result<Reply<E>, Refusal>
+        requires { ⌜ worker < length (now (now self .seats)) ⌝ }
+        ensures { λ r. ⌜ Exactly r (state-of (now (self .exit))) (taken (state-of (now (self .entry))) worker (takeable (E·Element .kind) (seat-at (now (now (self .entry) .seats)) worker))) ⌝ }
+    {
+        match reply_in(self.occupant(worker)) {
+            Some(reply) => {
+                write_seat(self.seats, worker, Seat::Empty);
+                Ok(reply)
+            }
+            None => refuse(Cause::NothingToTake),
         }
     }
 
@@ -208,16 +227,7 @@ impl<'a, E: Element> Strips<'a, E> {
         if worker >= self.count {
             return refuse(Cause::NoSuchWorker);
         }
-        let reply = match self.occupant(worker) {
-            Seat::Loaded(_) => Reply {
-                code: Code::StoodOff.number(),
-                element: E::blank(),
-            },
-            Seat::Ended(reply) => reply,
-            _ => return refuse(Cause::NothingToTake),
-        };
-        write_seat(self.seats, worker, Seat::Empty);
-        Ok(reply)
+        self.take_reply(worker)
     }
 
     // Empties every seat.

@@ -3,7 +3,7 @@ use mathlib.Core.Logic.{inl, inr}
 use Rattle.pieces.specs.declared.tray.records.Seat.the-variants.{Empty, HeadRead, CellRead, Ended}
 use Rattle.pieces.specs.TrayStrips.{state-of}
 use Rattle.pieces.specs.TrayAccess.{accessed}
-use Rattle.pieces.proofs.Calls.{answered, unknown, held, seat-ok, seat-within, cell-within, goes-within, moves-within}
+use Rattle.pieces.proofs.Calls.{answered-at, unknown, held, seat-ok, seat-within, cell-within, goes-within, moves-within}
 use Rattle.pieces.proofs.tray.strips.Strips.step.Needs as need
 
 pub returns-then-worker-self : need.returns-then-worker-self
@@ -56,35 +56,35 @@ move-head-requires g c κs =
 pub returns-in-Loaded : need.returns-in-Loaded
 returns-in-Loaded g c =
     let s = state-of (c .args .self .now) in
-    answered s (c .args .worker) (accessed (g .E·Element .kind) s (c .args .worker)) _ (c .if-worker-self .left) (c .in-Loaded .ensures tt) (c .access-head .ensures)
+    answered-at s (c .args .worker) (accessed (g .E·Element .kind) s (c .args .worker)) _ (c .if-worker-self .left) (c .in-Loaded .ensures tt) (c .access-head .ensures)
 
 pub returns-in-HeadRead : need.returns-in-HeadRead
 returns-in-HeadRead g c =
     let s = state-of (c .args .self .now) in
-    answered s (c .args .worker) (accessed (g .E·Element .kind) s (c .args .worker)) _ (c .if-worker-self .left) (c .in-HeadRead .ensures tt) (c .access-cell .ensures)
+    answered-at s (c .args .worker) (accessed (g .E·Element .kind) s (c .args .worker)) _ (c .if-worker-self .left) (c .in-HeadRead .ensures tt) (c .access-cell .ensures)
 
 pub returns-in-CellRead : need.returns-in-CellRead
 returns-in-CellRead g c =
     let s = state-of (c .args .self .now) in
-    answered s (c .args .worker) (accessed (g .E·Element .kind) s (c .args .worker)) _ (c .if-worker-self .left) (c .in-CellRead .ensures tt) (c .help .ensures)
+    answered-at s (c .args .worker) (accessed (g .E·Element .kind) s (c .args .worker)) _ (c .if-worker-self .left) (c .in-CellRead .ensures tt) (c .help .ensures)
 
 pub returns-in-CellWritten : need.returns-in-CellWritten
 returns-in-CellWritten g c =
     let s = state-of (c .args .self .now) in
-    answered s (c .args .worker) (accessed (g .E·Element .kind) s (c .args .worker)) _ (c .if-worker-self .left) (c .in-CellWritten .ensures tt) (c .access-neighbour .ensures)
+    answered-at s (c .args .worker) (accessed (g .E·Element .kind) s (c .args .worker)) _ (c .if-worker-self .left) (c .in-CellWritten .ensures tt) (c .access-neighbour .ensures)
 
 pub returns-in-NeighbourRead : need.returns-in-NeighbourRead
 returns-in-NeighbourRead g c =
     let s = state-of (c .args .self .now) in
-    answered s (c .args .worker) (accessed (g .E·Element .kind) s (c .args .worker)) _ (c .if-worker-self .left) (c .in-NeighbourRead .ensures tt) (c .move-head .ensures)
+    answered-at s (c .args .worker) (accessed (g .E·Element .kind) s (c .args .worker)) _ (c .if-worker-self .left) (c .in-NeighbourRead .ensures tt) (c .move-head .ensures)
 
 pub returns-in-Empty : need.returns-in-Empty
 returns-in-Empty g c =
     let s = state-of (c .args .self .now) in
     let i = c .args .worker in
     elim (c .in-Empty .is) [
-      | inl q ↦ answered s i (accessed (g .E·Element .kind) s i) Empty (c .if-worker-self .left) (cc)
+      | inl q ↦ answered-at s i (accessed (g .E·Element .kind) s i) Empty (c .if-worker-self .left) (cc)
           (record { answer = c .refuse-in-Empty .ensures; left = refl })
-      | inr q ↦ answered s i (accessed (g .E·Element .kind) s i) (Ended (q .0)) (c .if-worker-self .left) (cc (q .1))
+      | inr q ↦ answered-at s i (accessed (g .E·Element .kind) s i) (Ended (q .0)) (c .if-worker-self .left) (cc (q .1))
           (record { answer = c .refuse-in-Empty .ensures; left = refl })
     ]
