@@ -27,7 +27,7 @@ use Rattle.pieces.specs.declared.tray.records.Seat.{Seat}
 use Rattle.pieces.specs.declared.tray.records.Seat.the-variants.{Empty, Loaded, CellRead}
 use Rattle.pieces.specs.TrayStates.{TrayState}
 use Rattle.runs.specs.declared.events.Call.{Call}
-use Rattle.runs.specs.declared.events.Call.the-variants.{Seat as SeatCall, Step}
+use Rattle.runs.specs.declared.events.Call.the-variants.{Seat as SeatCall}
 use Rattle.runs.specs.declared.events.Event.{Event}
 use Rattle.runs.specs.declared.events.Event.the-variants.{Stepped, Taken}
 use Rattle.runs.specs.Events.{events-of, state-after, Played}
@@ -103,9 +103,6 @@ module _ {E : Type 0} (e : ElementKind E) (law : (x : E) → e .same x x ≡ tru
 
   lays-c : ended-try e 2 (seated 2 (push c) s₄) ≡ (Ok (reply Done o), s₅)
   lays-c = solo e (more s₄) 2 (lit< tt) (lit≤ tt) law (push c) refl
-
-  stood-off : state-after e s₅ (Step 0 ∷ Step 0 ∷ Step 0 ∷ []) ≡ s₆
-  stood-off = refl
 
   lays-d : ended-try e 0 s₆ ≡ (Ok (reply Done o), s₇)
   lays-d = solo e s₆ 0 (lit< tt) (lit≤ tt) law (push d) refl

@@ -36,6 +36,7 @@ module _ {E : Type 0} where
   access-number-of (NeighbourRead t x) = 5
   access-number-of (Ended r) = 0
 
+  -- 0 for a worker that there is not
   abbrev pub access-number : Option (Seat E) → ℕ
   access-number None = 0
   access-number (Some q) = access-number-of q
@@ -55,12 +56,13 @@ module _ {E : Type 0} where
   touched-of blank s (NeighbourRead t x) = None
   touched-of blank s (Ended r) = None
 
+  -- and none for a worker that there is not
   abbrev pub touched : E → TrayState E → Option (Seat E) → Option (Touched E)
   touched blank s None = None
   touched blank s (Some q) = touched-of blank s q
 
 module _ {E : Type 0} (e : ElementKind E) where
-  -- a Step of worker i from s to s′, which answers r
+  -- what is told of a Step of worker i in the state s: the head and the cell are those after it
   abbrev pub access-of : TrayState E → ℕ → Access E
   access-of s i =
       record {
@@ -71,15 +73,18 @@ module _ {E : Type 0} (e : ElementKind E) where
         touched = touched (e .blank) (step-outcome e s i .1) (shown-seat s i);
       }
 
+  -- one call: its event, and the state that it leaves
   abbrev pub performed : TrayState E → Call E → Event E × TrayState E
   performed s (SeatCall i c) = (Seated i c (seat-outcome s i c .0), seat-outcome s i c .1)
   performed s (Step i) = (Stepped (access-of s i), step-outcome e s i .1)
   performed s (Take i) = (Taken i (take-outcome e s i .0), take-outcome e s i .1)
 
+  -- the events of calls made one after another
   abbrev pub events-of : TrayState E → List (Call E) → List (Event E)
   events-of s [] = []
   events-of s (c ∷ cs) = performed s c .0 ∷ events-of (performed s c .1) cs
 
+  -- and the state after them all
   abbrev pub state-after : TrayState E → List (Call E) → TrayState E
   state-after s [] = s
   state-after s (c ∷ cs) = state-after (performed s c .1) cs
