@@ -33,7 +33,8 @@ def read(path):
 def own_names(root):
     own = set()
     for path in files(root):
-        if path.endswith(".antt") and os.path.basename(path) not in ("Answers.antt", "Invariants.antt"):
+        answers = "/proofs/" in path and os.path.basename(path) in ("Answers.antt", "Invariants.antt")
+        if path.endswith(".antt") and not answers:
             for line in read(path).splitlines():
                 m = DEFINED.match(line)
                 if m and TOKEN.fullmatch(m[1]):

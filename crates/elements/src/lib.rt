@@ -1,4 +1,6 @@
 // What every part of the collection shares: elements, commands, replies, answers and refusals.
+#![tactic(auto)]
+
 pub mod answers;
 pub mod commands;
 pub mod element;

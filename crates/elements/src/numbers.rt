@@ -1,6 +1,6 @@
 // The numbers that the rules give to answers, reply codes and causes.
 ghost use Rattle.std.specs.Prelude.{◌≡◌};
-ghost use Rattle.elements.specs.Answers.{answer-number};
+ghost use Rattle.elements.specs.Answers.{answer_number};
 ghost use Rattle.elements.specs.Codes.{code_number};
 ghost use Rattle.elements.specs.Refusals.{cause_number, asks};
 
@@ -10,7 +10,7 @@ use crate::refusals::{Cause, Layer};
 
 impl StepAnswer {
     pub fn number(self) -> u8
-        ensures { result ≡ answer-number self }
+        ensures { result ≡ answer_number self }
     {
         match self {
             StepAnswer::Moved => 1,

@@ -1,11 +1,13 @@
 // Plays the run of the held feeder on a tray of slips, and prints every call and at the end what came off.
+#![tactic(auto)]
+
 use elements::commands::{Command, Reply};
 use elements::kinds::Slip;
 use elements::refusals::Refusal;
+use pieces::tray::records::{Head, TrayKind};
 use runs::events::{Access, Event, Touched};
 use runs::held_feeder::held_feeder;
 use runs::off::off;
-use tray::records::{Head, TrayKind};
 
 fn print_refusal(rt: &impl Print, worker: usize, refusal: Refusal) -> anyhow::Result<()> {
     let number = refusal.cause.number();

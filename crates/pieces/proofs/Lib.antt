@@ -1,4 +1,7 @@
-pub mod TickLaws
-pub mod SeatLaws
-pub mod CallLaws
-pub mod Solo
+mod Filling
+mod Ticks
+mod Bounds
+mod Making
+mod Calls
+pub mod Keeping
+mod Ordinaries

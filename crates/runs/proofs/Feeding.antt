@@ -1,5 +1,5 @@
 -- The run of the held feeder, for any four elements of any kind.
-use Rattle.std.proofs.Common.{◌≡◌, ℕ, ◌+◌, ◌<◌, ◌≤◌, true, cond, eqb, List, [], ◌∷◌, ◌++◌, take, drop, pos, IfOk, Ok, Err, vec_items, Result, Vec, sym, refl, ap, ◌∙◌, subst, lit<, lit≤}
+use Rattle.std.proofs.Common.{◌≡◌, ℕ, ◌+◌, true, cond, eqb, List, [], ◌∷◌, ◌++◌, take, drop, pos, IfOk, Ok, Err, vec_items, Result, Vec, sym, refl, ap, ◌∙◌, subst, lit<, lit≤}
 use Rattle.std.specs.List.Sorted.{IsPermutation}
 use Rattle.std.proofs.lemmas.List.Sorted.{IsPermutation-swap}
 use Rattle.std.specs.declared.alloc.Global.{Global}
@@ -10,11 +10,11 @@ use Rattle.elements.specs.declared.commands.Command.{Command}
 use Rattle.elements.specs.declared.commands.Reply.{Reply}
 use Rattle.elements.specs.declared.commands.Code.TheVariants.{Done, Popped}
 use Rattle.elements.specs.declared.refusals.Refusal.{Refusal}
-use Rattle.tray.specs.declared.records.Cell.{Cell}
-use Rattle.tray.specs.declared.records.Head.{Head}
-use Rattle.tray.specs.declared.records.Seat.{Seat}
-use Rattle.tray.specs.declared.records.Seat.TheVariants.{Empty, Loaded, CellRead}
-use Rattle.tray.specs.TrayStates.{TrayState}
+use Rattle.pieces.specs.declared.tray.records.Cell.{Cell}
+use Rattle.pieces.specs.declared.tray.records.Head.{Head}
+use Rattle.pieces.specs.declared.tray.records.Seat.{Seat}
+use Rattle.pieces.specs.declared.tray.records.Seat.TheVariants.{Empty, Loaded, CellRead}
+use Rattle.pieces.specs.TrayStates.{TrayState}
 use Rattle.runs.specs.declared.events.Call.{Call}
 use Rattle.runs.specs.declared.events.Call.TheVariants.{Seat as SeatCall}
 use Rattle.runs.specs.declared.events.Event.{Event}

@@ -1,4 +1,3 @@
 mod Playing
 mod Solo
 mod Feeding
-mod Return

@@ -4,7 +4,7 @@ use Rattle.std.specs.Option.{option_map, option_to_list}
 use Rattle.std.proofs.lemmas.List.{drop_more, drop_all, append_assoc, append-nil}
 use Rattle.std.proofs.lemmas.Bool.{cond-false, and_right, lt-leb}
 use Rattle.elements.specs.Kinds.{ElementKind}
-use Rattle.tray.specs.TrayStates.{TrayState}
+use Rattle.pieces.specs.TrayStates.{TrayState}
 use Rattle.elements.specs.Outcomes.{Exactly}
 use Rattle.runs.specs.declared.events.Call.{Call}
 use Rattle.runs.specs.declared.events.Event.{Event}

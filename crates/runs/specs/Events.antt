@@ -4,12 +4,12 @@ use Rattle.std.specs.Option.{option_map}
 use Rattle.std.specs.declared.alloc.Global.{Global}
 use Rattle.std.specs.declared.alloc.AllocError.{AllocError}
 use Rattle.elements.specs.Kinds.{ElementKind}
-use Rattle.tray.specs.declared.records.Seat.{Seat}
-use Rattle.tray.specs.declared.records.Seat.TheVariants.{Empty, Loaded, HeadRead, CellRead, CellWritten, NeighbourRead, Ended}
-use Rattle.tray.specs.TrayStates.{TrayState}
-use Rattle.tray.specs.TrayAccess.{neighbour}
-use Rattle.tray.specs.TrayCalls.{seat_outcome, step_outcome, take_outcome}
-use Rattle.tray.specs.TrayShown.{shown_head, shown_cell, shown_seat}
+use Rattle.pieces.specs.declared.tray.records.Seat.{Seat}
+use Rattle.pieces.specs.declared.tray.records.Seat.TheVariants.{Empty, Loaded, HeadRead, CellRead, CellWritten, NeighbourRead, Ended}
+use Rattle.pieces.specs.TrayStates.{TrayState}
+use Rattle.pieces.specs.TrayAccess.{neighbour}
+use Rattle.pieces.specs.TrayCalls.{seat_outcome, step_outcome, take_outcome}
+use Rattle.pieces.specs.TrayShown.{shown_head, shown_cell, shown_seat}
 use Rattle.runs.specs.declared.events.Call.{Call}
 use Rattle.runs.specs.declared.events.Call.TheVariants.{Seat as SeatCall, Step, Take}
 use Rattle.runs.specs.declared.events.Touched.{Touched}

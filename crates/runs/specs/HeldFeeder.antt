@@ -7,11 +7,11 @@ use Rattle.elements.specs.Codes.{code_number}
 use Rattle.elements.specs.Kinds.{ElementKind}
 use Rattle.elements.specs.declared.commands.Command.{Command}
 use Rattle.elements.specs.declared.commands.Code.TheVariants.{Done, Popped}
-use Rattle.tray.specs.TrayKinds.{tray_kind_number}
-use Rattle.tray.specs.declared.records.TrayKind.TheVariants.{Push, Pop}
-use Rattle.tray.specs.declared.records.Seat.TheVariants.{Empty}
-use Rattle.tray.specs.TrayStates.{TrayState}
-use Rattle.tray.specs.TrayCalls.{made_tray}
+use Rattle.pieces.specs.TrayKinds.{tray_kind_number}
+use Rattle.pieces.specs.declared.tray.records.TrayKind.TheVariants.{Push, Pop}
+use Rattle.pieces.specs.declared.tray.records.Seat.TheVariants.{Empty}
+use Rattle.pieces.specs.TrayStates.{TrayState}
+use Rattle.pieces.specs.TrayCalls.{made_tray}
 use Rattle.runs.specs.declared.events.Call.{Call}
 use Rattle.runs.specs.declared.events.Call.TheVariants.{Seat, Step, Take}
 use Rattle.runs.specs.declared.events.Access.{Access}

@@ -2,7 +2,7 @@
 use elements::answers::StepAnswer;
 use elements::commands::{Command, Reply};
 use elements::refusals::Refusal;
-use tray::records::{Cell, Head};
+use pieces::tray::records::{Cell, Head};
 
 // A call of one worker.
 #[derive(Clone, Copy)]

@@ -9,9 +9,9 @@ use crate::play::play;
 use elements::commands::Command;
 use elements::element::Element;
 use elements::kinds::Slip;
+use pieces::tray::Tray;
+use pieces::tray::records::{Cell, Head, Seat, TrayKind};
 use std::alloc::{AllocError, Global};
-use tray::Tray;
-use tray::records::{Cell, Head, Seat, TrayKind};
 
 fn push_of(element: Slip) -> Command<Slip>
     ensures { result ≡ push element }

@@ -1,6 +1,9 @@
 // Runs of the shared objects: any list of calls of a tray, and the run of the held feeder.
+#![tactic(auto)]
+
 pub mod events;
 pub mod held_feeder;
-pub mod no_return;
 pub mod off;
 pub mod play;
+#[cfg(test)]
+mod tests;

@@ -1,16 +1,16 @@
 // Plays any list of calls of a tray.
 ghost use Rattle.std.specs.Prelude.{◌≡◌};
 ghost use Rattle.elements.specs.Outcomes.{Exactly};
-ghost use Rattle.tray.specs.Trays.{tray_state};
-ghost use Rattle.tray.specs.TrayAccess.{neighbour};
-ghost use Rattle.tray.specs.TrayCalls.{step_outcome};
+ghost use Rattle.pieces.specs.Trays.{tray_state};
+ghost use Rattle.pieces.specs.TrayAccess.{neighbour};
+ghost use Rattle.pieces.specs.TrayCalls.{step_outcome};
 ghost use Rattle.runs.specs.Events.{access_number, touched_at, touched, access_of, performed, Played};
 
 use crate::events::{Access, Call, Event, Touched};
 use elements::element::Element;
+use pieces::tray::Tray;
+use pieces::tray::records::{Seat, TrayKind, Try};
 use std::alloc::{AllocError, Global};
-use tray::Tray;
-use tray::records::{Seat, TrayKind, Try};
 
 // Which access a seat makes next.
 fn access_number<E: Element>(seat: Option<Seat<E>>) -> u8

@@ -1,17 +1,12 @@
 use Rattle.std.proofs.Common.{vec_items, arith}
-use Rattle.std.proofs.lemmas.Result.{err_from_is_err_and}
 use Rattle.runs.proofs.Playing.{off_more, off_all}
 use Rattle.runs.proofs.off.off.Goals as goal
-
-pub returns-in-err-elements : goal.returns-in-err-elements
-returns-in-err-elements g c =
-    let p = err_from_is_err_and c.from-residual.result c.from-residual.ensures.1 in rw p.1 tt
 
 pub loop-event-preserved : goal.loop-event-preserved
 loop-event-preserved g c =
     let inv = c.loop-event.invariant in (
       off_more c.args.events.now c.loop-event.event-index (vec_items c.loop-event.elements) (vec_items c.keep.new.elements)
-          c.event-item.result c.taken-off.result c.loop-event-test.true c.event-item.is c.taken-off.ensures c.keep.ensures.items inv.0,
+          c.event-item.result c.taken_off.result c.loop-event-test.true c.event-item.is c.taken_off.ensures c.keep.ensures.items inv.0,
       omega (arith, inv.1, c.keep.ensures.len),
       omega (arith, inv.2, c.keep.ensures.capacity),
     )

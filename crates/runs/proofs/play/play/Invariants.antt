@@ -1,5 +1,5 @@
 use Rattle.std.proofs.Common.{◌≡◌, ◌≤◌, ◌++◌, length, drop, vec_items, vec_len, vec_capacity}
-use Rattle.tray.specs.Trays.{tray_state}
+use Rattle.pieces.specs.Trays.{tray_state}
 use Rattle.runs.specs.Events.{events_of, state_after}
 use Rattle.runs.proofs.play.play.Given as goal
 

@@ -1,0 +1,254 @@
+-- Every call leaves a tray within its bounds.
+use Rattle.std.proofs.Common.{◌≡◌, ℕ, zero, suc, ◌+◌, ◌<◌, ◌≤◌, Bool, true, false, cond, ltb, List, [], ◌∷◌, length, take, set, replicate, Some, None, Option, sym, refl, ap, ◌∙◌, subst, inl, inr, zero-le, le_refl, le_of_suc-le-suc, arith}
+use Rattle.std.proofs.lemmas.List.{length-set, length-take-le, get_or-take, get_or-set_same, get_or-set_other}
+use Rattle.std.proofs.lemmas.Bool.{cases_eq, ltb-true}
+use Rattle.elements.specs.Kinds.{ElementKind}
+use Rattle.elements.specs.declared.commands.Command.{Command}
+use Rattle.elements.specs.declared.commands.Reply.{Reply}
+use Rattle.pieces.specs.declared.tray.records.Cell.{Cell}
+use Rattle.pieces.specs.declared.tray.records.Head.{Head}
+use Rattle.pieces.specs.declared.tray.records.Try.{Try}
+use Rattle.pieces.specs.declared.tray.records.Next.{Next}
+use Rattle.pieces.specs.declared.tray.records.Seat.{Seat}
+use Rattle.pieces.specs.declared.tray.records.Seat.TheVariants.{Empty, Loaded, HeadRead, CellRead, CellWritten, NeighbourRead, Ended}
+use Rattle.pieces.specs.TrayKinds.{tray_knows}
+use Rattle.pieces.specs.TrayStates.{TrayState, cell_at, head_of, seat_at}
+use Rattle.pieces.specs.TrayAccess.{at_limit, settled_early, neighbour, helps, helped_cells, next_of, unchanged, moved_head, limit_reply, done_reply, accessed}
+use Rattle.pieces.specs.TrayCalls.{most_seatings, filled, admitted, is_empty, seat_outcome, step_outcome, takeable, taken, take_outcome, clear_outcome}
+use Rattle.pieces.specs.TrayBounds.{unsettled, all_unsettled, TickOk, TryOk, SeatOk, Held, Bounded}
+use Rattle.pieces.proofs.Filling.{take_filled, length_filled, get_or_filled}
+use Rattle.pieces.proofs.Ticks.{tick_kept, try_kept, seat_kept, tick_up, goes}
+
+pub take_of_set : {A : Type 0} (n : ℕ) (xs : List A) (i : ℕ) (a : A) → take n (set xs i a) ≡ set (take n xs) i a
+take_of_set zero xs i a = refl
+take_of_set (suc n) [] i a = refl
+take_of_set (suc n) (x ∷ xs) zero a = refl
+take_of_set (suc n) (x ∷ xs) (suc i) a = ap (λ r. x ∷ r) (take_of_set n xs i a)
+
+-- another seat changes the number of unsettled ones by its own
+unsettled_set : {E : Type 0} (k : ℕ) (ss : List (Seat E)) (i : ℕ) (q : Seat E) → i < length ss
+    → all_unsettled k (set ss i q) + unsettled k (seat_at ss i) ≡ all_unsettled k ss + unsettled k q
+unsettled_set k [] i q l = omega arith
+unsettled_set k (x ∷ xs) zero q l = omega arith
+unsettled_set k (x ∷ xs) (suc i) q l = omega (arith, unsettled_set k xs i q (le_of_suc-le-suc l))
+
+-- what a call leaves, by a test
+by_test : {E R : Type 0} (blank : E) (b : Bool) (x y : R × TrayState E) → (b ≡ true → Bounded blank x.1) → (b ≡ false → Bounded blank y.1)
+    → Bounded blank (cond b x y).1
+by_test blank true x y f g = f refl
+by_test blank false x y f g = g refl
+
+at_most_one : (b : Bool) → cond {A = ℕ} b 0 1 ≤ 1
+at_most_one true = zero-le
+at_most_one false = le_refl 1
+
+module _ {E : Type 0} (blank : E) (s : TrayState E) (b : Bounded blank s) (i : ℕ) (l : i < s.count) where
+  abbrev before : ℕ
+  before = all_unsettled s.room (take s.count s.seats)
+
+  abbrev after : Seat E → ℕ
+  after q = all_unsettled s.room (take s.count (set s.seats i q))
+
+  held : Held blank s before
+  held = b.held (omega arith)
+
+  within : i < length (take s.count s.seats)
+  within = omega (arith, length-take-le s.count s.seats b.seats_long)
+
+  counted : (q : Seat E) → after q + unsettled s.room (seat_at s.seats i) ≡ before + unsettled s.room q
+  counted q =
+      omega (
+        arith,
+        ap (all_unsettled s.room) (take_of_set s.count s.seats i q),
+        unsettled_set s.room (take s.count s.seats) i q within,
+        ap (unsettled s.room) (get_or-take s.count s.seats i Empty l),
+      )
+
+  -- worker i has another seat, in a tray with other cells, another head and more seatings
+  reseated : (cs : List (Cell E)) (hs : List (Head E)) (q : Seat E) (g : ℕ)
+      → after q + s.seatings ≤ before + g → g ≤ most_seatings
+      → length cs ≡ length s.cells → length hs ≡ length s.heads → (head_of blank hs).index ≤ s.room
+      → ((y : ℕ) → y ≤ s.room → TickOk (after q) g (cell_at blank cs y).tick) → TickOk (after q) g (head_of blank hs).tick
+      → SeatOk s.room (after q) g q
+      → Bounded blank (record { cells = cs; heads = hs; seats = set s.seats i q; seatings = g; room = s.room; count = s.count })
+  reseated cs hs q g more few cl hl top cells head ok =
+      record {
+        seats_long = omega (arith, b.seats_long, length-set s.seats i q);
+        room_small = b.room_small;
+        few = few;
+        held = λ _.
+            record {
+              heads_long = omega (arith, held.heads_long);
+              cells_long = omega (arith, held.cells_long);
+              some_room = held.some_room;
+              top = top;
+              cells_ok = cells;
+              head_ok = head;
+              seats_ok = λ j m. elim (cases_eq j i) [
+                | inl e ↦ subst (λ z. SeatOk s.room (after q) g z)
+                    (sym (ap (seat_at (set s.seats i q)) e ∙ get_or-set_same s.seats i q Empty (omega (arith, b.seats_long)))) ok
+                | inr n ↦ subst (λ z. SeatOk s.room (after q) g z)
+                    (sym (get_or-set_other s.seats i j q Empty n)) (seat_kept before s.seatings (after q) g more s.room _ (held.seats_ok j m))
+              ];
+            };
+      }
+
+  -- only the seat is another
+  quiet : (q : Seat E) (g : ℕ) → after q + s.seatings ≤ before + g → g ≤ most_seatings → SeatOk s.room (after q) g q
+      → Bounded blank (record { cells = s.cells; heads = s.heads; seats = set s.seats i q; seatings = g; room = s.room; count = s.count })
+  quiet q g more few ok =
+      reseated s.cells s.heads q g more few refl refl held.top
+      (λ y m. tick_kept before s.seatings (after q) g more (held.cells_ok y m))
+      (tick_kept before s.seatings (after q) g more held.head_ok) ok
+
+  -- what a seat that is no more unsettled than before leaves
+  fewer : (q q' : Seat E) → seat_at s.seats i ≡ q → unsettled s.room q' ≤ unsettled s.room q → after q' + s.seatings ≤ before + s.seatings
+  fewer q q' e m = omega (arith, counted q', ap (unsettled s.room) e)
+
+  helped : (e : ElementKind E) (t : Try E) (u : E) (q : Seat E) → after q + s.seatings ≤ before + s.seatings
+      → TryOk s.room before s.seatings t → SeatOk s.room (after q) s.seatings q
+      → Bounded blank (record { cells = helped_cells e s.cells t u; heads = s.heads; seats = set s.seats i q; seatings = s.seatings; room = s.room; count = s.count })
+  helped e t u q more try ok = go (helps e (cell_at e.blank s.cells t.head.index) t u)
+    where
+      within_cells : t.head.index < length s.cells
+      within_cells = omega (arith, held.cells_long, try.index)
+
+      go : (h : Bool) → Bounded blank (record {
+        cells = cond h (set s.cells t.head.index (record { element = t.head.element; tick = t.head.tick })) s.cells;
+        heads = s.heads;
+        seats = set s.seats i q;
+        seatings = s.seatings;
+        room = s.room;
+        count = s.count;
+      })
+      go true =
+          reseated (set s.cells t.head.index (record { element = t.head.element; tick = t.head.tick })) s.heads q s.seatings more b.few
+          (length-set s.cells t.head.index _) refl held.top
+          (λ y m. elim (cases_eq y t.head.index) [
+            | inl f ↦ subst (λ z. TickOk (after q) s.seatings z.tick)
+                (sym (ap (cell_at blank (set s.cells t.head.index (record { element = t.head.element; tick = t.head.tick }))) f
+                ∙ get_or-set_same s.cells t.head.index (record { element = t.head.element; tick = t.head.tick }) _ within_cells))
+                (tick_kept before s.seatings (after q) s.seatings more try.tick)
+            | inr n ↦ subst (λ z. TickOk (after q) s.seatings z.tick)
+                (sym (get_or-set_other s.cells t.head.index y (record { element = t.head.element; tick = t.head.tick }) _ n))
+                (tick_kept before s.seatings (after q) s.seatings more (held.cells_ok y m))
+          ])
+          (tick_kept before s.seatings (after q) s.seatings more held.head_ok) ok
+      go false = quiet q s.seatings more b.few ok
+
+  -- the head moves, and one seat more has settled
+  moved : (e : ElementKind E) (t : Try E) (x : Next E) (q : Seat E) → after q + 1 ≤ before → SeatOk s.room before s.seatings (NeighbourRead t x)
+      → SeatOk s.room (after q) s.seatings q
+      → Bounded blank (record { cells = s.cells; heads = set s.heads 0 (moved_head e t x); seats = set s.seats i q; seatings = s.seatings; room = s.room; count = s.count })
+  moved e t x q less o ok =
+      let more : after q + s.seatings ≤ before + s.seatings = omega arith in
+      let top : head_of blank (set s.heads 0 (moved_head e t x)) ≡ moved_head e t x = get_or-set_same s.heads 0 (moved_head e t x) _ held.heads_long in
+      reseated s.cells (set s.heads 0 (moved_head e t x)) q s.seatings more b.few refl (length-set s.heads 0 _)
+      (subst (λ h. h.index ≤ s.room) (sym top) (goes s.room t o.0.index o.1).0)
+      (λ y m. tick_kept before s.seatings (after q) s.seatings more (held.cells_ok y m))
+      (subst (λ h. TickOk (after q) s.seatings h.tick) (sym top) (tick_up before s.seatings (after q) less x.tick o.2))
+      ok
+
+  -- an access of worker i, whose seat is q
+  access_bounded : (e : ElementKind E) → e.blank ≡ blank → (q : Seat E) → seat_at s.seats i ≡ q → SeatOk s.room before s.seatings q
+      → Bounded blank (accessed e s i q).1
+  access_bounded e f Empty at o = b
+  access_bounded e f (Loaded c) at o =
+      let more = fewer (Loaded c) (HeadRead (record { command = c; head = head_of e.blank s.heads })) at (at_most_one (at_limit s.room (head_of e.blank s.heads) c)) in
+      quiet _ s.seatings more b.few
+      (record {
+        index = subst (λ d. (head_of d s.heads).index ≤ s.room) (sym f) held.top;
+        tick = tick_kept before s.seatings _ s.seatings more (subst (λ d. TickOk before s.seatings (head_of d s.heads).tick) (sym f) held.head_ok);
+      })
+  access_bounded e f (HeadRead t) at o =
+      let more = fewer (HeadRead t) (CellRead t (cell_at e.blank s.cells t.head.index).element) at (le_refl (cond (settled_early s.room t) 0 1)) in
+      quiet _ s.seatings more b.few (try_kept before s.seatings _ s.seatings more o)
+  access_bounded e f (CellRead t u) at o = go (settled_early s.room t) refl
+    where
+      go : (y : Bool) → settled_early s.room t ≡ y
+          → Bounded blank (record {
+            cells = helped_cells e s.cells t u;
+            heads = s.heads;
+            seats = set s.seats i (cond y (Ended (limit_reply e t.command)) (CellWritten t));
+            seatings = s.seatings;
+            room = s.room;
+            count = s.count;
+          })
+      go true y = helped e t u _ (fewer (CellRead t u) (Ended (limit_reply e t.command)) at zero-le) o tt
+      go false y =
+          let more = fewer (CellRead t u) (CellWritten t) at (omega (arith, ap (λ z. cond {A = ℕ} z 0 1) y)) in
+          helped e t u _ more o (try_kept before s.seatings _ s.seatings more o, y)
+  access_bounded e f (CellWritten t) at o =
+      let more = fewer (CellWritten t) (NeighbourRead t (next_of e s.cells t)) at (le_refl 1) in
+      quiet _ s.seatings more b.few (
+        try_kept before s.seatings _ s.seatings more o.0,
+        o.1,
+        tick_kept before s.seatings _ s.seatings more
+            (subst (λ d. TickOk before s.seatings (cell_at d s.cells (neighbour t)).tick) (sym f)
+            (held.cells_ok (neighbour t) (goes s.room t o.0.index o.1).0)),
+      )
+  access_bounded e f (NeighbourRead t x) at o =
+      by_test blank (unchanged e (head_of e.blank s.heads) t) _ _
+      (λ _. moved e t x (Ended (done_reply e t)) (omega (arith, counted (Ended (done_reply e t)), ap (unsettled s.room) at)) o tt)
+      (λ _. quiet (Loaded t.command) s.seatings (fewer (NeighbourRead t x) (Loaded t.command) at (le_refl 1)) b.few tt)
+  access_bounded e f (Ended r) at o = b
+
+  -- what is taken from a seat leaves it empty
+  taken_bounded : (o : Option (Reply E)) → Bounded blank (taken s i o).1
+  taken_bounded None = b
+  taken_bounded (Some r) = quiet Empty s.seatings (fewer (seat_at s.seats i) Empty refl zero-le) b.few tt
+
+  -- a command that is seated is one seating more
+  admitted_bounded : (c : Command E) → Bounded blank (admitted s i c).1
+  admitted_bounded c =
+      by_test blank (tray_knows c.kind) _ _
+      (λ _. by_test blank (ltb s.seatings most_seatings) _ _
+      (λ f. quiet (Loaded c) (s.seatings + 1) (omega (arith, counted (Loaded c))) (omega (arith, ltb-true s.seatings most_seatings f)) tt)
+      (λ _. b))
+      (λ _. b)
+
+pub none_unsettled : {E : Type 0} (k n : ℕ) (q : Seat E) → q ≡ Empty → all_unsettled k (replicate n q) ≡ 0
+none_unsettled k zero q e = refl
+none_unsettled k (suc n) q e = omega (arith, none_unsettled k n q e, ap (unsettled k) e)
+
+module _ {E : Type 0} (blank : E) (s : TrayState E) (b : Bounded blank s) where
+  pub seat_bounded : (i : ℕ) (c : Command E) → Bounded blank (seat_outcome s i c).1
+  seat_bounded i c =
+      by_test blank (ltb i s.count) _ _
+      (λ f. by_test blank (is_empty (seat_at s.seats i)) _ _ (λ _. admitted_bounded blank s b i (ltb-true i s.count f) c) (λ _. b)) (λ _. b)
+
+  pub step_bounded : (e : ElementKind E) → e.blank ≡ blank → (i : ℕ) → Bounded blank (step_outcome e s i).1
+  step_bounded e f i =
+      by_test blank (ltb i s.count) _ _
+      (λ g. let l : i < s.count = ltb-true i s.count g in
+      access_bounded blank s b i l e f (seat_at s.seats i) refl ((held blank s b i l).seats_ok i l))
+      (λ _. b)
+
+  pub take_bounded : (e : ElementKind E) (i : ℕ) → Bounded blank (take_outcome e s i).1
+  take_bounded e i =
+      by_test blank (ltb i s.count) _ _
+      (λ f. taken_bounded blank s b i (ltb-true i s.count f) (takeable e (seat_at s.seats i))) (λ _. b)
+
+  abbrev left : ℕ
+  left = all_unsettled s.room (take s.count (filled s.count Empty s.seats))
+
+  pub clear_bounded : Bounded blank (clear_outcome s)
+  clear_bounded =
+      let none : left ≡ 0 = ap (all_unsettled s.room) (take_filled s.count Empty s.seats) ∙ none_unsettled s.room s.count Empty refl in
+      record {
+        seats_long = omega (arith, b.seats_long, length_filled s.count Empty s.seats b.seats_long);
+        room_small = b.room_small;
+        few = b.few;
+        held = λ some.
+            let h = b.held some in
+            let more : left + s.seatings ≤ all_unsettled s.room (take s.count s.seats) + s.seatings = omega arith in
+            record {
+              heads_long = h.heads_long;
+              cells_long = h.cells_long;
+              some_room = h.some_room;
+              top = h.top;
+              cells_ok = λ y m. tick_kept _ _ _ _ more (h.cells_ok y m);
+              head_ok = tick_kept _ _ _ _ more h.head_ok;
+              seats_ok = λ j l. subst (λ q. SeatOk s.room left s.seatings q) (sym (get_or_filled s.count Empty s.seats j Empty l)) tt;
+            };
+      }

@@ -1,0 +1,116 @@
+-- A new tray is within its bounds, and empty.
+use Rattle.std.proofs.Common.{◌≡◌, ℕ, ◌+◌, ◌-◌, ◌<◌, ◌≤◌, min, Bool, true, false, cond, ◌&&◌, ltb, List, [], length, take, pos, negsuc, sym, refl, ap, ◌∙◌, subst, inl, inr, zero-le, arith}
+use Rattle.std.proofs.lemmas.Int.{ints}
+use Rattle.std.proofs.lemmas.List.{length-set, get_or-set_same, get_or-set_other}
+use Rattle.std.proofs.lemmas.Bool.{cases_eq, cond_both, and_parts, ltb-true}
+use Rattle.elements.specs.Kinds.{ElementKind}
+use Rattle.pieces.specs.declared.tray.records.Cell.{Cell}
+use Rattle.pieces.specs.declared.tray.records.Head.{Head}
+use Rattle.pieces.specs.declared.tray.records.Seat.{Seat}
+use Rattle.pieces.specs.declared.tray.records.Seat.TheVariants.{Empty}
+use Rattle.pieces.specs.TrayStates.{TrayState, cell_at, head_of}
+use Rattle.pieces.specs.TrayCalls.{filled, enough, new_cells, new_heads, made_tray}
+use Rattle.pieces.specs.TrayBounds.{all_unsettled, TickOk, SeatOk, Bounded}
+use Rattle.pieces.proofs.Filling.{take_filled, length_filled, get_or_filled}
+use Rattle.pieces.specs.TrayStates.{stack, tray_content}
+use Rattle.pieces.proofs.Bounds.{none_unsettled}
+
+-- what strips that hold a tray have
+pub tray_held : {E : Type 0} (cs : List (Cell E)) (hs : List (Head E)) (ss : List (Seat E)) → enough cs hs ss ≡ true
+    → (1 < length cs) × (0 < length hs) × (0 < length ss)
+tray_held cs hs ss g =
+    let a = and_parts (ltb 1 (length cs) && ltb 0 (length hs)) (ltb 0 (length ss)) g in
+    let b = and_parts (ltb 1 (length cs)) (ltb 0 (length hs)) a.0 in
+    (ltb-true 1 (length cs) b.0, ltb-true 0 (length hs) b.1, ltb-true 0 (length ss) a.1)
+
+-- a new tray
+module _ {E : Type 0} (blank : E) (e : ElementKind E) (f : e.blank ≡ blank) (cs : List (Cell E)) (hs : List (Head E)) (ss : List (Seat E)) where
+  -- strips that hold a tray
+  module _ (two : 1 < length cs) (one : 0 < length hs) (some : 0 < length ss) where
+    abbrev k : ℕ
+    k = min (length cs - 1) 1024
+
+    abbrev n : ℕ
+    n = min (length ss) 16
+
+    abbrev zeroth : Cell E
+    zeroth = record { element = e.blank; tick = negsuc 0 }
+
+    abbrev other : Cell E
+    other = record { element = e.blank; tick = pos 0 }
+
+    fits : k + 1 ≤ length cs
+    fits = omega arith
+
+    head_is : head_of blank (new_heads e hs) ≡ record { index = 0; element = e.blank; tick = pos 0 }
+    head_is = get_or-set_same hs 0 (record { index = 0; element = e.blank; tick = pos 0 }) _ one
+
+    long : length (filled (k + 1) other cs) ≡ length cs
+    long = length_filled (k + 1) other cs fits
+
+    cells_fit : (y : ℕ) → y ≤ k → TickOk 0 0 (cell_at blank (new_cells e k cs) y).tick
+    cells_fit y m = elim (cases_eq y 0) [
+      | inl z ↦ subst (λ c. TickOk 0 0 c.tick)
+          (sym (ap (cell_at blank (new_cells e k cs)) z ∙ get_or-set_same (filled (k + 1) other cs) 0 zeroth _ (omega (arith, long))))
+          (record { low = omega (arith, ints); high = omega (arith, ints) })
+      | inr z ↦ subst (λ c. TickOk 0 0 c.tick)
+          (sym (get_or-set_other (filled (k + 1) other cs) 0 y zeroth _ z ∙ get_or_filled (k + 1) other cs y _ (omega arith)))
+          (record { low = omega (arith, ints); high = omega (arith, ints) })
+    ]
+
+    abbrev none : ℕ
+    none = all_unsettled k (take n (filled n Empty ss))
+
+    made_held : Bounded blank (record { cells = new_cells e k cs; heads = new_heads e hs; seats = filled n Empty ss; seatings = 0; room = k; count = n })
+    made_held =
+        let z : 0 ≡ none = sym (ap (all_unsettled k) (take_filled n Empty ss) ∙ none_unsettled k n Empty refl) in
+        record {
+          seats_long = omega (arith, length_filled n Empty ss (omega arith));
+          room_small = omega arith;
+          few = zero-le;
+          held = λ _.
+              record {
+                heads_long = omega (arith, length-set hs 0 (record { index = 0; element = e.blank; tick = pos 0 }));
+                cells_long = omega (arith, long, length-set (filled (k + 1) other cs) 0 zeroth);
+                some_room = omega arith;
+                top = subst (λ h. h.index ≤ k) (sym head_is) zero-le;
+                cells_ok = λ y m. subst (λ p. TickOk p 0 (cell_at blank (new_cells e k cs) y).tick) z (cells_fit y m);
+                head_ok = subst (λ p. TickOk p 0 (head_of blank (new_heads e hs)).tick) z
+                    (subst (λ h. TickOk 0 0 h.tick) (sym head_is) (record { low = omega (arith, ints); high = omega (arith, ints) }));
+                seats_ok = λ j l. subst (λ q. SeatOk k none 0 q) (sym (get_or_filled n Empty ss j Empty l)) tt;
+              };
+        }
+
+  pub made_bounded : Bounded blank (made_tray e cs hs ss)
+  made_bounded =
+      cond_both (enough cs hs ss) _ _ (Bounded blank)
+      (λ g. let l = tray_held cs hs ss g in made_held l.0 l.1 l.2)
+      (λ _. record { seats_long = zero-le; room_small = omega arith; few = zero-le; held = λ m. absurd (nobody m) })
+    where
+      nobody : 0 < 0 → ⊥
+      nobody m = omega arith
+
+both_none : {A : Type 0} (b : Bool) → cond {A = List A} b [] [] ≡ []
+both_none true = refl
+both_none false = refl
+
+-- nothing lies on a new tray
+pub made_empty : {E : Type 0} (e : ElementKind E) (cs : List (Cell E)) (hs : List (Head E)) (ss : List (Seat E)) (s : TrayState E)
+    → s ≡ made_tray e cs hs ss → tray_content e.blank s ≡ []
+made_empty {E} e cs hs ss s made =
+    ap (tray_content e.blank) made
+    ∙ cond_both (enough cs hs ss) _ _ (λ z. tray_content e.blank z ≡ []) (λ g. none (tray_held cs hs ss g)) (λ _. refl)
+  where
+    none : (1 < length cs) × (0 < length hs) × (0 < length ss)
+        → tray_content e.blank (record {
+          cells = new_cells e (min (length cs - 1) 1024) cs;
+          heads = new_heads e hs;
+          seats = filled (min (length ss) 16) Empty ss;
+          seatings = 0;
+          room = min (length cs - 1) 1024;
+          count = min (length ss) 16;
+        }) ≡ []
+    none l =
+        ap (λ (z : Head E). cond (ltb 0 (min (length ss) 16)) (stack e.blank (new_cells e (min (length cs - 1) 1024) cs) z.index z.element) [])
+        (get_or-set_same hs 0 (record { index = 0; element = e.blank; tick = pos 0 }) (record { index = 0; element = e.blank; tick = pos 0 }) l.1)
+        ∙ both_none (ltb 0 (min (length ss) 16))

@@ -1,0 +1,8 @@
+-- The whole state of a tray.
+use Rattle.elements.specs.declared.element.Element.{Ghosts}
+use Rattle.pieces.specs.declared.tray.Tray.{Tray}
+use Rattle.pieces.specs.TrayStates.{TrayState}
+use Rattle.pieces.specs.TrayStrips.{state_of}
+
+abbrev pub tray_state : {E : Type 0} {g : Ghosts E} → Tray E g → TrayState E
+tray_state t = state_of t.strips

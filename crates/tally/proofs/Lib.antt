@@ -1,3 +1,0 @@
-mod Soundness
-mod Keeping
-mod Meaning

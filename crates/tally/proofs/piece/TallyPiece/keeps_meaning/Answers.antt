@@ -1,6 +1,0 @@
-use Rattle.tally.proofs.Keeping.{known}
-use Rattle.tally.proofs.Meaning.{meaning_kept}
-use Rattle.tally.proofs.piece.TallyPiece.keeps_meaning.Goals as goal
-
-pub returns : goal.returns
-returns c = meaning_kept _ (known c.args.self.now) (c.ordinary-tally-holds.ensures.law _)

@@ -1,6 +1,0 @@
-pub mod TallyKinds
-pub mod OrdinaryTally
-pub mod TallyStates
-pub mod TallyCalls
-pub mod TallySound
-pub mod TallyMeaning
