@@ -1,5 +1,5 @@
 -- The number of each reply code, and which of them are changes.
-use Rattle.std.specs.Prelude.{Bool, ◌||◌, ℕ, eqb}
+use Rattle.std.specs.Prelude.{ℕ, Bool, ◌||◌, ◌==◌}
 use Rattle.elements.specs.declared.commands.Reply.{Reply}
 use Rattle.elements.specs.declared.commands.Code.{Code}
 use Rattle.elements.specs.declared.commands.Code.TheVariants.{Done, Full, Popped, Empty, Added, Over, Total, StoodOff}
@@ -20,4 +20,4 @@ reply c x = record { code = code_number c; element = x }
 
 -- is this the number of a change? Any other reply is a look: it leaves the content as it is
 abbrev pub is_change : ℕ → Bool
-is_change n = eqb n (code_number Done) || eqb n (code_number Popped) || eqb n (code_number Added)
+is_change n = n == code_number Done || n == code_number Popped || n == code_number Added

@@ -1,5 +1,5 @@
 -- The number of each question, and which layer asks which.
-use Rattle.std.specs.Prelude.{◌≡◌, Bool, true, false, ◌||◌, List, [], ◌∷◌, ℕ, eqb}
+use Rattle.std.specs.Prelude.{◌≡◌, ℕ, Bool, true, false, ◌||◌, List, [], ◌∷◌, Some, Option, ◌==◌}
 use Rattle.elements.specs.declared.refusals.Layer.{Layer}
 use Rattle.elements.specs.declared.refusals.Layer.TheVariants.{Bay, Piece, Door, Sheet}
 use Rattle.elements.specs.declared.refusals.Cause.{Cause}
@@ -25,9 +25,10 @@ cause_number SetupMisplaced = 15
 cause_number WrongBodyLength = 16
 cause_number UnknownSetup = 17
 
+-- is n one of these numbers?
 abbrev pub one_of : List ℕ → ℕ → Bool
 one_of [] n = false
-one_of (m ∷ ms) n = eqb n m || one_of ms n
+one_of (m ∷ ms) n = n == m || one_of ms n
 
 -- the numbers of the questions that a layer asks
 abbrev pub asks : Layer → ℕ → Bool
@@ -39,3 +40,8 @@ asks Sheet n = one_of (11 ∷ 12 ∷ 13 ∷ 14 ∷ 15 ∷ 16 ∷ 17 ∷ []) n
 -- the refusal of a layer at its question number n; the two proofs, each `refl`, tie the number to the cause and to the layer
 abbrev pub refusal : (l : Layer) (n : ℕ) (c : Cause) → cause_number c ≡ n → asks l n ≡ true → Refusal
 refusal l n c numbered asked = record { layer = l; cause = c }
+
+-- one question: its no decides, its yes leaves it to the questions after it
+abbrev pub ask : Bool → Refusal → Option Refusal → Option Refusal
+ask true r later = later
+ask false r later = Some r

@@ -14,16 +14,15 @@ use Rattle.pieces.specs.declared.tray.records.Seat.TheVariants.{Empty, Loaded, H
 use Rattle.pieces.specs.TrayKinds.{tray_knows}
 use Rattle.pieces.specs.TrayStates.{TrayState, cell_at, head_of, seat_at}
 use Rattle.pieces.specs.TrayAccess.{at_limit, settled_early, neighbour, helps, helped_cells, next_of, unchanged, moved_head, limit_reply, done_reply, accessed}
-use Rattle.pieces.specs.TrayCalls.{most_seatings, filled, admitted, is_empty, seat_outcome, step_outcome, takeable, taken, take_outcome, clear_outcome}
-use Rattle.pieces.specs.TrayBounds.{unsettled, all_unsettled, TickOk, TryOk, SeatOk, Held, Bounded}
+use Rattle.pieces.specs.TrayCalls.{filled, admitted, is_empty, seat_outcome, step_outcome, takeable, taken, take_outcome, clear_outcome}
+use Rattle.pieces.specs.TrayBounds.{unsettled, all_unsettled, TryOk, SeatOk, Held, Bounded}
 use Rattle.pieces.proofs.Filling.{take_filled, length_filled, get_or_filled}
-use Rattle.pieces.proofs.Ticks.{tick_kept, try_kept, seat_kept, tick_up, goes}
-
-pub take_of_set : {A : Type 0} (n : ℕ) (xs : List A) (i : ℕ) (a : A) → take n (set xs i a) ≡ set (take n xs) i a
-take_of_set zero xs i a = refl
-take_of_set (suc n) [] i a = refl
-take_of_set (suc n) (x ∷ xs) zero a = refl
-take_of_set (suc n) (x ∷ xs) (suc i) a = ap (λ r. x ∷ r) (take_of_set n xs i a)
+use Rattle.pieces.specs.Calls.{most_seatings}
+use Rattle.pieces.specs.Ticks.{TickOk}
+use Rattle.pieces.proofs.CallLaws.{by_test}
+use Rattle.pieces.proofs.SeatLaws.{take_of_set}
+use Rattle.pieces.proofs.TickLaws.{tick_kept, tick_up}
+use Rattle.pieces.proofs.Ticks.{try_kept, seat_kept, goes}
 
 -- another seat changes the number of unsettled ones by its own
 unsettled_set : {E : Type 0} (k : ℕ) (ss : List (Seat E)) (i : ℕ) (q : Seat E) → i < length ss
@@ -31,12 +30,6 @@ unsettled_set : {E : Type 0} (k : ℕ) (ss : List (Seat E)) (i : ℕ) (q : Seat 
 unsettled_set k [] i q l = omega arith
 unsettled_set k (x ∷ xs) zero q l = omega arith
 unsettled_set k (x ∷ xs) (suc i) q l = omega (arith, unsettled_set k xs i q (le_of_suc-le-suc l))
-
--- what a call leaves, by a test
-by_test : {E R : Type 0} (blank : E) (b : Bool) (x y : R × TrayState E) → (b ≡ true → Bounded blank x.1) → (b ≡ false → Bounded blank y.1)
-    → Bounded blank (cond b x y).1
-by_test blank true x y f g = f refl
-by_test blank false x y f g = g refl
 
 at_most_one : (b : Bool) → cond {A = ℕ} b 0 1 ≤ 1
 at_most_one true = zero-le
@@ -49,7 +42,8 @@ module _ {E : Type 0} (blank : E) (s : TrayState E) (b : Bounded blank s) (i : �
   abbrev after : Seat E → ℕ
   after q = all_unsettled s.room (take s.count (set s.seats i q))
 
-  held : Held blank s before
+  -- what is true of a tray with workers
+  pub held : Held blank s before
   held = b.held (omega arith)
 
   within : i < length (take s.count s.seats)
@@ -188,7 +182,7 @@ module _ {E : Type 0} (blank : E) (s : TrayState E) (b : Bounded blank s) (i : �
             (held.cells_ok (neighbour t) (goes s.room t o.0.index o.1).0)),
       )
   access_bounded e f (NeighbourRead t x) at o =
-      by_test blank (unchanged e (head_of e.blank s.heads) t) _ _
+      by_test (Bounded blank) (unchanged e (head_of e.blank s.heads) t) _ _
       (λ _. moved e t x (Ended (done_reply e t)) (omega (arith, counted (Ended (done_reply e t)), ap (unsettled s.room) at)) o tt)
       (λ _. quiet (Loaded t.command) s.seatings (fewer (NeighbourRead t x) (Loaded t.command) at (le_refl 1)) b.few tt)
   access_bounded e f (Ended r) at o = b
@@ -201,8 +195,8 @@ module _ {E : Type 0} (blank : E) (s : TrayState E) (b : Bounded blank s) (i : �
   -- a command that is seated is one seating more
   admitted_bounded : (c : Command E) → Bounded blank (admitted s i c).1
   admitted_bounded c =
-      by_test blank (tray_knows c.kind) _ _
-      (λ _. by_test blank (ltb s.seatings most_seatings) _ _
+      by_test (Bounded blank) (tray_knows c.kind) _ _
+      (λ _. by_test (Bounded blank) (ltb s.seatings most_seatings) _ _
       (λ f. quiet (Loaded c) (s.seatings + 1) (omega (arith, counted (Loaded c))) (omega (arith, ltb-true s.seatings most_seatings f)) tt)
       (λ _. b))
       (λ _. b)
@@ -214,19 +208,19 @@ none_unsettled k (suc n) q e = omega (arith, none_unsettled k n q e, ap (unsettl
 module _ {E : Type 0} (blank : E) (s : TrayState E) (b : Bounded blank s) where
   pub seat_bounded : (i : ℕ) (c : Command E) → Bounded blank (seat_outcome s i c).1
   seat_bounded i c =
-      by_test blank (ltb i s.count) _ _
-      (λ f. by_test blank (is_empty (seat_at s.seats i)) _ _ (λ _. admitted_bounded blank s b i (ltb-true i s.count f) c) (λ _. b)) (λ _. b)
+      by_test (Bounded blank) (ltb i s.count) _ _
+      (λ f. by_test (Bounded blank) (is_empty (seat_at s.seats i)) _ _ (λ _. admitted_bounded blank s b i (ltb-true i s.count f) c) (λ _. b)) (λ _. b)
 
   pub step_bounded : (e : ElementKind E) → e.blank ≡ blank → (i : ℕ) → Bounded blank (step_outcome e s i).1
   step_bounded e f i =
-      by_test blank (ltb i s.count) _ _
+      by_test (Bounded blank) (ltb i s.count) _ _
       (λ g. let l : i < s.count = ltb-true i s.count g in
       access_bounded blank s b i l e f (seat_at s.seats i) refl ((held blank s b i l).seats_ok i l))
       (λ _. b)
 
   pub take_bounded : (e : ElementKind E) (i : ℕ) → Bounded blank (take_outcome e s i).1
   take_bounded e i =
-      by_test blank (ltb i s.count) _ _
+      by_test (Bounded blank) (ltb i s.count) _ _
       (λ f. taken_bounded blank s b i (ltb-true i s.count f) (takeable e (seat_at s.seats i))) (λ _. b)
 
   abbrev left : ℕ

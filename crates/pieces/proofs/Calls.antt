@@ -12,9 +12,11 @@ use Rattle.pieces.specs.declared.tray.records.Seat.TheVariants.{CellWritten, Nei
 use Rattle.pieces.specs.TrayStates.{TrayState, seat_at}
 use Rattle.pieces.specs.TrayAccess.{neighbour}
 use Rattle.elements.specs.Outcomes.{Exactly}
-use Rattle.pieces.specs.TrayCalls.{most_seatings, if_worker}
+use Rattle.pieces.specs.Calls.{most_seatings}
+use Rattle.pieces.specs.TrayCalls.{if_worker}
 use Rattle.pieces.specs.TrayBounds.{all_unsettled, SeatOk, Held, Bounded}
-use Rattle.pieces.proofs.Ticks.{goes, tick_most}
+use Rattle.pieces.proofs.TickLaws.{tick_most}
+use Rattle.pieces.proofs.Ticks.{goes}
 
 module _ {E R : Type 0} (s : TrayState E) (i : ℕ) {r : Result R Refusal} {x : TrayState E} where
   -- a worker that there is

@@ -1,7 +1,17 @@
+pub mod TickLaws
+pub mod SeatLaws
+pub mod CallLaws
+pub mod Solo
+pub mod Ordinaries
 mod Filling
 mod Ticks
 mod Bounds
 mod Making
 mod Calls
 pub mod Keeping
-mod Ordinaries
+mod Stack
+mod Late
+pub mod Soundness
+mod Meaning
+mod Sameness
+pub mod Returning

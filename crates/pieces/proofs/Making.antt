@@ -1,19 +1,20 @@
--- A new tray is within its bounds, and empty.
+-- A new tray is sound, and empty.
 use Rattle.std.proofs.Common.{◌≡◌, ℕ, ◌+◌, ◌-◌, ◌<◌, ◌≤◌, min, Bool, true, false, cond, ◌&&◌, ltb, List, [], length, take, pos, negsuc, sym, refl, ap, ◌∙◌, subst, inl, inr, zero-le, arith}
 use Rattle.std.proofs.lemmas.Int.{ints}
 use Rattle.std.proofs.lemmas.List.{length-set, get_or-set_same, get_or-set_other}
 use Rattle.std.proofs.lemmas.Bool.{cases_eq, cond_both, and_parts, ltb-true}
 use Rattle.elements.specs.Kinds.{ElementKind}
+use Rattle.pieces.specs.Ticks.{TickOk}
+use Rattle.pieces.proofs.Bounds.{none_unsettled}
 use Rattle.pieces.specs.declared.tray.records.Cell.{Cell}
 use Rattle.pieces.specs.declared.tray.records.Head.{Head}
 use Rattle.pieces.specs.declared.tray.records.Seat.{Seat}
 use Rattle.pieces.specs.declared.tray.records.Seat.TheVariants.{Empty}
-use Rattle.pieces.specs.TrayStates.{TrayState, cell_at, head_of}
+use Rattle.pieces.specs.TrayStates.{TrayState, cell_at, head_of, stack, tray_content}
 use Rattle.pieces.specs.TrayCalls.{filled, enough, new_cells, new_heads, made_tray}
-use Rattle.pieces.specs.TrayBounds.{all_unsettled, TickOk, SeatOk, Bounded}
+use Rattle.pieces.specs.TrayBounds.{all_unsettled, SeatOk, Bounded}
+use Rattle.pieces.specs.TraySound.{HeadTrue, SeatTrue, Consistent, Sound}
 use Rattle.pieces.proofs.Filling.{take_filled, length_filled, get_or_filled}
-use Rattle.pieces.specs.TrayStates.{stack, tray_content}
-use Rattle.pieces.proofs.Bounds.{none_unsettled}
 
 -- what strips that hold a tray have
 pub tray_held : {E : Type 0} (cs : List (Cell E)) (hs : List (Head E)) (ss : List (Seat E)) → enough cs hs ss ≡ true
@@ -81,11 +82,30 @@ module _ {E : Type 0} (blank : E) (e : ElementKind E) (f : e.blank ≡ blank) (c
               };
         }
 
-  pub made_bounded : Bounded blank (made_tray e cs hs ss)
-  made_bounded =
-      cond_both (enough cs hs ss) _ _ (Bounded blank)
-      (λ g. let l = tray_held cs hs ss g in made_held l.0 l.1 l.2)
-      (λ _. record { seats_long = zero-le; room_small = omega arith; few = zero-le; held = λ m. absurd (nobody m) })
+    made_consistent : Consistent blank (record { cells = new_cells e k cs; heads = new_heads e hs; seats = filled n Empty ss; seatings = 0; room = k; count = n })
+    made_consistent =
+        record {
+          head_true = subst (λ h. HeadTrue (cell_at blank (new_cells e k cs) h.index) h) (sym head_is)
+              (subst (λ c. HeadTrue c (record { index = 0; element = e.blank; tick = pos 0 }))
+              (sym (get_or-set_same (filled (k + 1) other cs) 0 zeroth _ (omega (arith, long))))
+              (record { behind = omega (arith, ints); ahead = omega (arith, ints); written = λ f. absurd (no f) }));
+          seats_true = λ j l. subst (λ q. SeatTrue blank (new_cells e k cs) (head_of blank (new_heads e hs)) q) (sym (get_or_filled n Empty ss j Empty l)) tt;
+        }
+      where
+        no : negsuc 0 ≡ pos 0 → ⊥
+        no f = omega (arith, ints)
+
+  pub made_sound : Sound blank (made_tray e cs hs ss)
+  made_sound =
+      cond_both (enough cs hs ss) _ _ (Sound blank)
+      (λ g.
+      let l = tray_held cs hs ss g in
+      record { bounded = made_held l.0 l.1 l.2; few_workers = omega arith; consistent = λ _. made_consistent l.0 l.1 l.2 })
+      (λ _. record {
+        bounded = record { seats_long = zero-le; room_small = omega arith; few = zero-le; held = λ m. absurd (nobody m) };
+        few_workers = zero-le;
+        consistent = λ m. absurd (nobody m);
+      })
     where
       nobody : 0 < 0 → ⊥
       nobody m = omega arith

@@ -8,6 +8,7 @@ use Rattle.elements.specs.declared.commands.Command.{Command}
 use Rattle.elements.specs.declared.commands.Reply.{Reply}
 use Rattle.elements.specs.declared.commands.Code.TheVariants.{Done, Full, Popped, Empty, Added, Over, Total}
 use Rattle.elements.specs.declared.kinds.Amount.{Amount}
+use Rattle.pieces.specs.Names.{ObjectLaw}
 use Rattle.pieces.specs.Ordinary.{OrdinaryLaw}
 use Rattle.pieces.specs.TrayKinds.{is_push}
 use Rattle.pieces.specs.OrdinaryTray.{ordinary_tray}
@@ -47,3 +48,8 @@ module _ (m : ℕ) where
 
   pub tally_law : OrdinaryLaw (λ total. total ≤ m) (ordinary_tally m)
   tally_law = law _ _ (λ total c. kept_tally total c.element (eqb c.kind 1) (ltb m (total + c.element.units)) refl)
+
+-- so it keeps the law of an object that a piece names, of whatever commands are known
+pub object_law : {E C : Type 0} {Fits : C → Type 0} {f : C → Command E → C × Reply E} → OrdinaryLaw Fits f → (known : Command E → Bool)
+    → ObjectLaw known is_change f
+object_law o known = record { look = λ x c _. o.look x c; not_zero = λ x c _. o.not_zero x c; not_stood_off = λ x c _. o.not_stood_off x c }

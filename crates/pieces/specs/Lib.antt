@@ -1,5 +1,13 @@
-pub mod TrayKinds
 pub mod Ordinary
+pub mod Names
+pub mod Views
+pub mod Accesses
+pub mod Calls
+pub mod Outcomes
+pub mod Meanings
+pub mod Ticks
+pub mod Alone
+pub mod TrayKinds
 pub mod OrdinaryTray
 pub mod OrdinaryTally
 pub mod TrayStates
@@ -8,4 +16,6 @@ pub mod TrayCalls
 pub mod TrayShown
 pub mod TrayBounds
 pub mod TrayStrips
+pub mod TraySound
 pub mod Trays
+pub mod TrayMeaning

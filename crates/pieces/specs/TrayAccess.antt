@@ -1,5 +1,5 @@
 -- The five accesses of a try.
-use Rattle.std.specs.Prelude.{ℕ, ◌+◌, ◌-◌, Bool, false, cond, ◌&&◌, List, ℤ, pos, negsuc, ◌+ℤ◌, ◌-ℤ◌, Ok, Err, Result, ◌==◌, slice_set, refl}
+use Rattle.std.specs.Prelude.{ℕ, ◌+◌, ◌-◌, Bool, cond, ◌&&◌, List, pos, ◌+ℤ◌, ◌-ℤ◌, Ok, Err, Result, ◌==◌, slice_set, refl}
 use Rattle.elements.specs.Kinds.{ElementKind}
 use Rattle.elements.specs.Codes.{reply}
 use Rattle.elements.specs.Refusals.{refusal}
@@ -17,15 +17,9 @@ use Rattle.pieces.specs.declared.tray.records.Try.{Try}
 use Rattle.pieces.specs.declared.tray.records.Next.{Next}
 use Rattle.pieces.specs.declared.tray.records.Seat.{Seat}
 use Rattle.pieces.specs.declared.tray.records.Seat.TheVariants.{Empty, Loaded, HeadRead, CellRead, CellWritten, NeighbourRead, Ended}
+use Rattle.pieces.specs.Ticks.{tick_eq}
 use Rattle.pieces.specs.TrayKinds.{is_push}
 use Rattle.pieces.specs.TrayStates.{TrayState, cell_at, head_of, with_cells, with_head, with_seat}
-
--- are two ticks equal?
-abbrev pub tick_eq : ℤ → ℤ → Bool
-tick_eq (pos a) (pos b) = a == b
-tick_eq (pos a) (negsuc b) = false
-tick_eq (negsuc a) (pos b) = false
-tick_eq (negsuc a) (negsuc b) = a == b
 
 -- does a command find a tray of k places, with this head, at its limit: full for a push, empty for a pop?
 abbrev pub at_limit : {E : Type 0} → ℕ → Head E → Command E → Bool
@@ -38,6 +32,10 @@ settled_early k t = at_limit k t.head t.command
 -- the cell that a try makes the top: the one above for a push, the one below for a pop
 abbrev pub neighbour : {E : Type 0} → Try E → ℕ
 neighbour t = cond (is_push t.command) (t.head.index + 1) (t.head.index - 1)
+
+-- has the head still the index and the tick that a try saw?
+abbrev pub agrees : {E : Type 0} → Head E → Try E → Bool
+agrees h t = h.index == t.head.index && tick_eq h.tick t.head.tick
 
 module _ {E : Type 0} (e : ElementKind E) where
   -- the reply of a try that found the tray at its limit

@@ -1,11 +1,12 @@
 -- What is always true of a tray: its indices lie in its strips, and no tick passes the number of seatings.
-use Rattle.std.specs.Prelude.{◌≡◌, ℕ, ◌+◌, ◌<◌, ◌≤◌, false, cond, List, [], ◌∷◌, length, take, ℤ, pos, negsuc, ◌+ℤ◌, ◌≤ℤ◌}
+use Rattle.std.specs.Prelude.{◌≡◌, ℕ, ◌+◌, ◌<◌, ◌≤◌, false, cond, List, [], ◌∷◌, length, take}
 use Rattle.pieces.specs.declared.tray.records.Try.{Try}
 use Rattle.pieces.specs.declared.tray.records.Seat.{Seat}
 use Rattle.pieces.specs.declared.tray.records.Seat.TheVariants.{Empty, Loaded, HeadRead, CellRead, CellWritten, NeighbourRead, Ended}
+use Rattle.pieces.specs.Calls.{most_seatings}
+use Rattle.pieces.specs.Ticks.{TickOk}
 use Rattle.pieces.specs.TrayStates.{TrayState, cell_at, head_of, seat_at}
 use Rattle.pieces.specs.TrayAccess.{settled_early}
-use Rattle.pieces.specs.TrayCalls.{most_seatings}
 
 -- 1 for a seat that is loaded, or runs a try that has not settled
 abbrev pub unsettled : {E : Type 0} → ℕ → Seat E → ℕ
@@ -21,11 +22,6 @@ unsettled k (Ended r) = 0
 abbrev pub all_unsettled : {E : Type 0} → ℕ → List (Seat E) → ℕ
 all_unsettled k [] = 0
 all_unsettled k (q ∷ qs) = unsettled k q + all_unsettled k qs
-
--- a tick is at least −1, and with the p seats that have not settled at most the g seatings
-pub record TickOk (p g : ℕ) (tick : ℤ) : Type 0 where
-  pub low : negsuc 0 ≤ℤ tick
-  pub high : (tick +ℤ pos p) ≤ℤ pos g
 
 -- the head that a try remembers lies within the tray
 pub record TryOk {E : Type 0} (k p g : ℕ) (t : Try E) : Type 0 where

@@ -15,13 +15,10 @@ use Rattle.pieces.specs.declared.tray.records.Cell.{Cell}
 use Rattle.pieces.specs.declared.tray.records.Head.{Head}
 use Rattle.pieces.specs.declared.tray.records.Seat.{Seat}
 use Rattle.pieces.specs.declared.tray.records.Seat.TheVariants.{Empty, Loaded, HeadRead, CellRead, CellWritten, NeighbourRead, Ended}
+use Rattle.pieces.specs.Calls.{most_seatings}
 use Rattle.pieces.specs.TrayKinds.{tray_knows}
 use Rattle.pieces.specs.TrayStates.{TrayState, seat_at, with_seat, with_seats}
 use Rattle.pieces.specs.TrayAccess.{accessed}
-
--- how often a tray can be seated
-abbrev pub most_seatings : ℕ
-most_seatings = 4000000000
 
 -- the first n places of a strip, written anew
 abbrev pub filled : {A : Type 0} → ℕ → A → List A → List A

@@ -1,5 +1,8 @@
 // The shared objects.
 #![tactic(auto)]
 
+pub mod alone;
 pub mod ordinary;
+pub mod piece;
+pub mod refusals;
 pub mod tray;

@@ -1,3 +1,4 @@
 mod Playing
 mod Solo
 mod Feeding
+mod Return

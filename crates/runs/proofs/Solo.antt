@@ -1,5 +1,5 @@
 -- A try that nobody disturbs: five accesses, after which its reply is the one of a try that moved the head.
-use Rattle.std.proofs.Common.{◌≡◌, ℕ, ◌<◌, ◌≤◌, Bool, true, false, cond, ◌&&◌, ltb, List, length, set, ℤ, pos, negsuc, ◌-ℤ◌, Ok, Result, refl, ap, ◌∙◌, arith}
+use Rattle.std.proofs.Common.{◌≡◌, ℕ, ◌<◌, ◌≤◌, Bool, true, false, cond, ◌&&◌, ltb, List, length, set, pos, ◌-ℤ◌, Ok, Result, refl, ap, ◌∙◌, arith}
 use Rattle.std.proofs.lemmas.List.{get_or-set_same, set-set}
 use Rattle.std.proofs.lemmas.Bool.{cond-true, lt-ltb, eq-eqb}
 use Rattle.elements.specs.Kinds.{ElementKind}
@@ -8,12 +8,14 @@ use Rattle.elements.specs.declared.commands.Reply.{Reply}
 use Rattle.elements.specs.declared.refusals.Refusal.{Refusal}
 use Rattle.pieces.specs.declared.tray.records.Cell.{Cell}
 use Rattle.pieces.specs.declared.tray.records.Head.{Head}
+use Rattle.pieces.specs.Ticks.{tick_eq}
+use Rattle.pieces.proofs.TickLaws.{tick_eq_same}
 use Rattle.pieces.specs.declared.tray.records.Try.{Try}
 use Rattle.pieces.specs.declared.tray.records.Next.{Next}
 use Rattle.pieces.specs.declared.tray.records.Seat.{Seat}
 use Rattle.pieces.specs.declared.tray.records.Seat.TheVariants.{Empty, Loaded, HeadRead, CellRead, CellWritten, NeighbourRead, Ended}
 use Rattle.pieces.specs.TrayStates.{TrayState, cell_at, head_of, with_seats, with_cells, with_head}
-use Rattle.pieces.specs.TrayAccess.{tick_eq, at_limit, helped_cells, next_of, unchanged, moved_head, limit_reply, done_reply, accessed}
+use Rattle.pieces.specs.TrayAccess.{at_limit, helped_cells, next_of, unchanged, moved_head, limit_reply, done_reply, accessed}
 use Rattle.pieces.specs.TrayCalls.{step_outcome, take_outcome, takeable, taken}
 
 -- a Step of worker i
@@ -23,10 +25,6 @@ stepped e i s = (step_outcome e s i).1
 -- five of them, and a Take
 abbrev pub ended_try : {E : Type 0} → ElementKind E → ℕ → TrayState E → Result (Reply E) Refusal × TrayState E
 ended_try e i s = take_outcome e (stepped e i (stepped e i (stepped e i (stepped e i (stepped e i s))))) i
-
-tick_self : (a : ℤ) → tick_eq a a ≡ true
-tick_self (pos a) = eq-eqb a a refl
-tick_self (negsuc a) = eq-eqb a a refl
 
 module _ {E : Type 0} (e : ElementKind E) (s : TrayState E) (i : ℕ) (l : i < s.count) (long : s.count ≤ length s.seats) where
   within : i < length s.seats
@@ -83,7 +81,7 @@ module _ {E : Type 0} (e : ElementKind E) (s : TrayState E) (i : ℕ) (l : i < s
     same_head : unchanged e h t ≡ true
     same_head =
         ap (λ b. b && tick_eq h.tick h.tick && e.same h.element h.element) (eq-eqb h.index h.index refl)
-        ∙ ap (λ b. true && b && e.same h.element h.element) (tick_self h.tick)
+        ∙ ap (λ b. true && b && e.same h.element h.element) (tick_eq_same h.tick)
         ∙ law h.element
 
     access_1 : (step_outcome e (at s.cells (Loaded c)) i).1 ≡ at s.cells (HeadRead t)

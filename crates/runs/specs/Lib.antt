@@ -1,2 +1,3 @@
 pub mod Events
 pub mod HeldFeeder
+pub mod NoReturn

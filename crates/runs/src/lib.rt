@@ -3,6 +3,7 @@
 
 pub mod events;
 pub mod held_feeder;
+pub mod no_return;
 pub mod off;
 pub mod play;
 #[cfg(test)]

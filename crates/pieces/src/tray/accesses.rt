@@ -1,6 +1,5 @@
 // The accesses of a try, each to one strip, and what a tray's strips are made of.
-ghost use Rattle.std.specs.Prelude.{◌≡◌, ◌+◌, ◌-◌, ◌<◌, ◌≤◌, length, ℤ, pos, negsuc, ◌≤ℤ◌, if◌then◌else◌, Err, ◌≢◌, slice_set};
-ghost use Rattle.elements.specs.declared.refusals.Layer.TheVariants.{Piece};
+ghost use Rattle.std.specs.Prelude.{◌≡◌, ◌+◌, ◌-◌, ◌<◌, ◌≤◌, length, ℤ, pos, negsuc, ◌≤ℤ◌, if◌then◌else◌, ◌≢◌, slice_set};
 ghost use Rattle.pieces.specs.TrayStates.{cell_at, head_of, seat_at};
 ghost use Rattle.pieces.specs.declared.tray.records.Seat.TheVariants.{Empty};
 ghost use Rattle.pieces.specs.TrayCalls.{filled, is_empty, takeable, new_cells, new_heads, enough};
@@ -10,7 +9,6 @@ use crate::tray::kinds::pushes;
 use crate::tray::records::{Cell, Head, Next, Seat, Try};
 use elements::commands::{Code, Command, Reply};
 use elements::element::Element;
-use elements::refusals::{Cause, Layer, Refusal};
 
 // Whether a tray of `room` places with this head is full for a push, or empty for a pop.
 pub(super) fn limits<E: Element>(room: usize, head: Head<E>, command: Command<E>) -> bool
@@ -261,14 +259,4 @@ pub(super) fn hold_tray<E: Element>(cells: &[Cell<E>], heads: &[Head<E>], seats:
     ensures { result ≡ enough cells.now heads.now seats.now }
 {
     cells.len() > 1 && heads.len() > 0 && seats.len() > 0
-}
-
-// A refusal of a tray.
-pub(super) fn refuse<T>(cause: Cause) -> Result<T, Refusal>
-    ensures { result ≡ Err (record { layer = Piece; cause = cause }) }
-{
-    Err(Refusal {
-        layer: Layer::Piece,
-        cause,
-    })
 }

@@ -1,5 +1,6 @@
 // The calls of a tray. Each says exactly what it answers and what it leaves, refused or not.
 ghost use Rattle.std.specs.Prelude.{◌≡◌, []};
+ghost use Rattle.elements.specs.Kinds.{uncompared};
 ghost use Rattle.elements.specs.Outcomes.{Exactly};
 ghost use Rattle.pieces.specs.TrayCalls.{seat_outcome, step_outcome, take_outcome, clear_outcome, made_tray};
 ghost use Rattle.pieces.specs.TrayShown.{shown_head, shown_cell, shown_seat};
@@ -66,9 +67,11 @@ impl<'a, E: Element> Tray<'a, E> {
         self.strips.seat(worker, command)
     }
 
-    // Makes one access for the worker's command; the first of them begins a try.
+    // Makes one access for the worker's command; the first of them begins a try. Which elements are the same never
+    // decides: the outcome is that of elements any two of which are the same.
     pub fn step(&mut self, worker: usize) -> Result<StepAnswer, Refusal>
-        ensures { Exactly result (tray_state self.new) (step_outcome E.Element.kind (tray_state self.old) worker) }
+        ensures exact { Exactly result (tray_state self.new) (step_outcome E.Element.kind (tray_state self.old) worker) }
+        ensures uncompared { Exactly result (tray_state self.new) (step_outcome (uncompared E.Element.kind.blank) (tray_state self.old) worker) }
     {
         self.strips.step(worker)
     }

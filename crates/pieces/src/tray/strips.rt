@@ -9,6 +9,7 @@ ghost use Rattle.pieces.specs.TrayShown.{shown_head, shown_cell, shown_seat};
 ghost use Rattle.pieces.specs.TrayStrips.{state_of};
 ghost use Rattle.pieces.specs.declared.tray.records.Seat.TheVariants.{Loaded, HeadRead, CellRead, CellWritten, NeighbourRead};
 
+use crate::refusals::refuse;
 use crate::tray::accesses::*;
 use crate::tray::kinds::knows;
 use crate::tray::records::{Cell, Head, Next, Seat, Try};

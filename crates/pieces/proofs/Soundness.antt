@@ -1,0 +1,232 @@
+-- Every call leaves a tray sound.
+use Rattle.std.proofs.Common.{◌≡◌, ℕ, ◌+◌, ◌<◌, Bool, true, false, cond, ltb, List, length, take, set, ℤ, pos, ◌+ℤ◌, ◌-ℤ◌, ◌≤ℤ◌, Some, None, Option, sym, refl, ap, ◌∙◌, subst, inl, inr, ⊎_elim, arith}
+use Rattle.std.proofs.lemmas.List.{get_or-set_same, get_or-set_other}
+use Rattle.std.proofs.lemmas.Int.{ints, by_lt_z}
+use Rattle.std.proofs.lemmas.Bool.{cases_eq, cases_Bool, both_ways, ltb-true, eq-eqb, and_from, and_parts}
+use Rattle.elements.specs.Kinds.{ElementKind}
+use Rattle.elements.specs.declared.commands.Command.{Command}
+use Rattle.elements.specs.declared.commands.Reply.{Reply}
+use Rattle.pieces.specs.Calls.{most_seatings}
+use Rattle.pieces.specs.Ticks.{tick_eq}
+use Rattle.pieces.proofs.CallLaws.{by_test}
+use Rattle.pieces.proofs.TickLaws.{tick_eq_true, tick_eq_same}
+use Rattle.pieces.specs.declared.tray.records.Cell.{Cell}
+use Rattle.pieces.specs.declared.tray.records.Head.{Head}
+use Rattle.pieces.specs.declared.tray.records.Try.{Try}
+use Rattle.pieces.specs.declared.tray.records.Next.{Next}
+use Rattle.pieces.specs.declared.tray.records.Seat.{Seat}
+use Rattle.pieces.specs.declared.tray.records.Seat.TheVariants.{Empty, Loaded, HeadRead, CellRead, CellWritten, NeighbourRead, Ended}
+use Rattle.pieces.specs.TrayKinds.{tray_knows}
+use Rattle.pieces.specs.TrayStates.{TrayState, cell_at, head_of, seat_at}
+use Rattle.pieces.specs.TrayAccess.{settled_early, agrees, helps, unchanged, moved_head, limit_reply, done_reply, accessed}
+use Rattle.pieces.specs.TrayCalls.{is_empty, admitted, seat_outcome, step_outcome, takeable, taken, take_outcome, clear_outcome}
+use Rattle.pieces.specs.TrayBounds.{all_unsettled, SeatOk, Held, Bounded}
+use Rattle.pieces.specs.TraySound.{HeadTrue, TryTrue, ReadTrue, WriteTrue, SeatTrue, Consistent, Sound}
+use Rattle.pieces.proofs.Filling.{get_or_filled}
+use Rattle.pieces.proofs.Bounds.{held, seat_bounded, step_bounded, take_bounded, clear_bounded}
+use Rattle.pieces.proofs.Late.{le_same, not_over, agree_index, agree_tick, cell_same, write_try, write_keeps, move_keeps}
+
+-- one tick behind, said in two ways
+pub behind_by_one : (a b : ℤ) → a ≡ (b -ℤ pos 1) → (a +ℤ pos 1) ≡ b
+behind_by_one a b e = omega (arith, ints)
+
+one_less : (a b : ℤ) → (a +ℤ pos 1) ≡ b → a ≡ (b -ℤ pos 1)
+one_less a b e = omega (arith, ints)
+
+caught_up : (a b : ℤ) → a ≤ℤ (b +ℤ pos 1) → ((b +ℤ pos 1) ≡ a → ⊥) → a ≤ℤ b
+caught_up a b h n = by_lt_z b a (λ l. absurd (n (omega (arith, ints)))) (λ l. l)
+
+-- the head agrees with a try that has just seen it
+pub agrees_now : {E : Type 0} (h : Head E) (c : Command E) → agrees h (record { command = c; head = h }) ≡ true
+agrees_now h c = and_from _ _ (eq-eqb h.index h.index refl) (tick_eq_same h.tick)
+
+module _ {E : Type 0} (e : ElementKind E) (c : Cell E) (h : Head E) (t : Try E) (u : E) (o : TryTrue c h t) where
+  -- access 3 writes only while the head stands, to a cell that is one tick behind
+  pub helps_now : helps e c t u ≡ true → (agrees h t ≡ true) × ((c.tick +ℤ pos 1) ≡ t.head.tick)
+  helps_now w =
+      let f : (c.tick +ℤ pos 1) ≡ t.head.tick =
+      behind_by_one _ _ (tick_eq_true _ _ (and_parts (tick_eq c.tick (t.head.tick -ℤ pos 1)) _ w).0) in
+      (⊎_elim (λ y. y) (λ n. absurd (not_over _ _ (o.past n) f)) (cases_Bool (agrees h t)), f)
+
+  -- what it compares is what it read, so a cell that is one tick behind is written
+  pub helps_if_behind : ((x : E) → e.same x x ≡ true) → ReadTrue c t u → (c.tick +ℤ pos 1) ≡ t.head.tick → helps e c t u ≡ true
+  helps_if_behind same r f =
+      let g : c.tick ≡ (t.head.tick -ℤ pos 1) = one_less _ _ f in
+      and_from _ _ (subst (λ z. tick_eq c.tick z ≡ true) g (tick_eq_same c.tick)) (ap (λ z. e.same z u) (r f) ∙ same u)
+
+  -- and one that is not written is no tick behind
+  pub helps_not : ((x : E) → e.same x x ≡ true) → ReadTrue c t u → helps e c t u ≡ false → WriteTrue c t
+  helps_not same r n = caught_up _ _ o.behind (λ f. both_ways _ n (helps_if_behind same r f))
+
+module _ {E : Type 0} (e : ElementKind E) (same : (x : E) → e.same x x ≡ true) (s : TrayState E) (o : Sound e.blank s) (i : ℕ) (l : i < s.count) where
+  abbrev h : Head E
+  h = head_of e.blank s.heads
+
+  abbrev cell : ℕ → Cell E
+  cell = cell_at e.blank s.cells
+
+  bounds : Held e.blank s (all_unsettled s.room (take s.count s.seats))
+  bounds = held e.blank s o.bounded i l
+
+  agreement : Consistent e.blank s
+  agreement = o.consistent (omega arith)
+
+  -- worker i has another seat, in a tray with other cells, another head and more seatings
+  reseated : (cs : List (Cell E)) (hs : List (Head E)) (q : Seat E) (g : ℕ)
+      → HeadTrue (cell_at e.blank cs (head_of e.blank hs).index) (head_of e.blank hs)
+      → ((j : ℕ) → j < s.count → SeatTrue e.blank cs (head_of e.blank hs) (seat_at s.seats j))
+      → SeatTrue e.blank cs (head_of e.blank hs) q
+      → Consistent e.blank (record { cells = cs; heads = hs; seats = set s.seats i q; seatings = g; room = s.room; count = s.count })
+  reseated cs hs q g head others own =
+      record {
+        head_true = head;
+        seats_true = λ j m. elim (cases_eq j i) [
+          | inl f ↦ subst (λ z. SeatTrue e.blank cs (head_of e.blank hs) z)
+              (sym (ap (seat_at (set s.seats i q)) f ∙ get_or-set_same s.seats i q Empty (omega (arith, o.bounded.seats_long)))) own
+          | inr n ↦ subst (λ z. SeatTrue e.blank cs (head_of e.blank hs) z) (sym (get_or-set_other s.seats i j q Empty n)) (others j m)
+        ];
+      }
+
+  -- only the seat is another
+  quiet : (q : Seat E) (g : ℕ) → SeatTrue e.blank s.cells h q
+      → Consistent e.blank (record { cells = s.cells; heads = s.heads; seats = set s.seats i q; seatings = g; room = s.room; count = s.count })
+  quiet q g own = reseated s.cells s.heads q g agreement.head_true agreement.seats_true own
+
+  -- access 3, by whether it writes, and whether the try had settled
+  helped : (t : Try E) (u : E) → SeatOk s.room (all_unsettled s.room (take s.count s.seats)) s.seatings (CellRead t u)
+      → SeatTrue e.blank s.cells h (CellRead t u) → (w y : Bool) → helps e (cell t.head.index) t u ≡ w
+      → Consistent e.blank (record {
+        cells = cond w (set s.cells t.head.index (record { element = t.head.element; tick = t.head.tick })) s.cells;
+        heads = s.heads;
+        seats = set s.seats i (cond y (Ended (limit_reply e t.command)) (CellWritten t));
+        seatings = s.seatings;
+        room = s.room;
+        count = s.count;
+      })
+  helped t u ok p true y w =
+      let k = helps_now e (cell t.head.index) h t u p.0 w in
+      let within : t.head.index < length s.cells = omega (arith, bounds.cells_long, ok.index) in
+      let now : Cell E = record { element = t.head.element; tick = t.head.tick } in
+      let cs : List (Cell E) = set s.cells t.head.index now in
+      let at : cell_at e.blank cs t.head.index ≡ now = cell_same e.blank s.cells t.head.index now within in
+      let keeps = write_keeps e.blank s.room (all_unsettled s.room (take s.count s.seats)) s.seatings s.cells h t within k.0 k.1 in
+      let try = write_try e.blank s.room (all_unsettled s.room (take s.count s.seats)) s.seatings s.cells h t within k.0 k.1 t p.0 in
+      reseated cs s.heads _ s.seatings
+      (subst (λ z. HeadTrue (cell_at e.blank cs z) h) (sym (agree_index h t k.0))
+      (subst (λ z. HeadTrue z h) (sym at) (record {
+        behind = under (agree_tick h t k.0);
+        ahead = le_same _ _ (sym (agree_tick h t k.0));
+        written = λ _. sym (p.0.stands k.0);
+      })))
+      (λ j m. keeps (seat_at s.seats j) (bounds.seats_ok j m) (agreement.seats_true j m))
+      (own cs y try (subst (λ z. WriteTrue z t) (sym at) (le_same _ _ refl)))
+    where
+      under : {a d : ℤ} → a ≡ d → a ≤ℤ (d +ℤ pos 1)
+      under f = omega (arith, ints)
+
+      own : (cs : List (Cell E)) (y : Bool) → TryTrue (cell_at e.blank cs t.head.index) h t → WriteTrue (cell_at e.blank cs t.head.index) t
+          → SeatTrue e.blank cs h (cond y (Ended (limit_reply e t.command)) (CellWritten t))
+      own cs true a d = tt
+      own cs false a d = (a, d)
+  helped t u ok p false y w = quiet _ s.seatings (own y)
+    where
+      own : (y : Bool) → SeatTrue e.blank s.cells h (cond y (Ended (limit_reply e t.command)) (CellWritten t))
+      own true = tt
+      own false = (p.0, helps_not e (cell t.head.index) h t u p.0 same p.1 w)
+
+  -- access 5 moves the head
+  moved : (t : Try E) (x : Next E) → SeatTrue e.blank s.cells h (NeighbourRead t x) → agrees h t ≡ true
+      → Consistent e.blank (record {
+        cells = s.cells;
+        heads = set s.heads 0 (moved_head e t x);
+        seats = set s.seats i (Ended (done_reply e t));
+        seatings = s.seatings;
+        room = s.room;
+        count = s.count;
+      })
+  moved t x p a =
+      let top : head_of e.blank (set s.heads 0 (moved_head e t x)) ≡ moved_head e t x = get_or-set_same s.heads 0 (moved_head e t x) _ bounds.heads_long in
+      let n = (p.2 a).tick in
+      reseated s.cells (set s.heads 0 (moved_head e t x)) (Ended (done_reply e t)) s.seatings
+      (subst (λ z. HeadTrue (cell z.index) z) (sym top) (record { behind = behind n; ahead = ahead n; written = λ f. absurd (no n f) }))
+      (λ j m. subst (λ z. SeatTrue e.blank s.cells z (seat_at s.seats j)) (sym top)
+      (move_keeps e s.cells h t x a p (seat_at s.seats j) (agreement.seats_true j m)))
+      tt
+    where
+      behind : {a d : ℤ} → a ≡ d → (a +ℤ pos 1) ≤ℤ (d +ℤ pos 1)
+      behind f = omega (arith, ints)
+
+      ahead : {a d : ℤ} → a ≡ d → d ≤ℤ (a +ℤ pos 1)
+      ahead f = omega (arith, ints)
+
+      no : {a d : ℤ} → a ≡ d → d ≡ (a +ℤ pos 1) → ⊥
+      no f g = omega (arith, ints)
+
+  -- an access of worker i, whose seat is q
+  access_consistent : (q : Seat E) → SeatOk s.room (all_unsettled s.room (take s.count s.seats)) s.seatings q
+      → SeatTrue e.blank s.cells h q → Consistent e.blank (accessed e s i q).1
+  access_consistent Empty ok p = agreement
+  access_consistent (Loaded d) ok p =
+      quiet _ s.seatings (record {
+        behind = agreement.head_true.behind;
+        stands = λ _. refl;
+        past = λ n. absurd (both_ways _ n (agrees_now h d));
+      })
+  access_consistent (HeadRead t) ok p = quiet _ s.seatings (p, λ _. refl)
+  access_consistent (CellRead t u) ok p = helped t u ok p (helps e (cell t.head.index) t u) (settled_early s.room t) refl
+  access_consistent (CellWritten t) ok p = quiet _ s.seatings (p.0, p.1, λ _. record { tick = refl; element = refl })
+  access_consistent (NeighbourRead t x) ok p =
+      by_test (Consistent e.blank) (unchanged e h t) _ _
+      (λ f. moved t x p (and_parts (agrees h t) _ f).0) (λ _. quiet (Loaded t.command) s.seatings tt)
+  access_consistent (Ended r) ok p = agreement
+
+  -- a seat is taken from, or loaded
+  taken_consistent : (r : Option (Reply E)) → Consistent e.blank (taken s i r).1
+  taken_consistent None = agreement
+  taken_consistent (Some r) = quiet Empty s.seatings tt
+
+  admitted_consistent : (d : Command E) → Consistent e.blank (admitted s i d).1
+  admitted_consistent d =
+      by_test (Consistent e.blank) (tray_knows d.kind) _ _
+      (λ _. by_test (Consistent e.blank) (ltb s.seatings most_seatings) _ _ (λ _. quiet (Loaded d) (s.seatings + 1) tt) (λ _. agreement))
+      (λ _. agreement)
+
+-- a call that leaves the tray within its bounds, and the number of workers; of a worker that there is not, it leaves everything
+if_there : {E R : Type 0} (blank : E) (s : TrayState E) → Sound blank s → (i : ℕ) (y z : R × TrayState E) → z.1 ≡ s → y.1.count ≡ s.count
+    → (i < s.count → Consistent blank y.1) → Bounded blank (cond (ltb i s.count) y z).1 → Sound blank (cond (ltb i s.count) y z).1
+if_there blank s o i y z left size known bounded = go (ltb i s.count) refl bounded
+  where
+    go : (b : Bool) → ltb i s.count ≡ b → Bounded blank (cond b y z).1 → Sound blank (cond b y z).1
+    go true f w = record { bounded = w; few_workers = omega (arith, o.few_workers, size); consistent = λ _. known (ltb-true i s.count f) }
+    go false f w = subst (λ x. Sound blank x) (sym left) o
+
+module _ {E : Type 0} (e : ElementKind E) (s : TrayState E) (o : Sound e.blank s) where
+  pub step_sound : ((x : E) → e.same x x ≡ true) → (i : ℕ) → Sound e.blank (step_outcome e s i).1
+  step_sound same i =
+      if_there e.blank s o i _ _ refl (grind arith)
+      (λ l. access_consistent e same s o i l (seat_at s.seats i) ((bounds e same s o i l).seats_ok i l) ((agreement e same s o i l).seats_true i l))
+      (step_bounded e.blank s o.bounded e refl i)
+
+  pub seat_sound : ((x : E) → e.same x x ≡ true) → (i : ℕ) (d : Command E) → Sound e.blank (seat_outcome s i d).1
+  seat_sound same i d =
+      if_there e.blank s o i _ _ refl (grind arith)
+      (λ l. by_test (Consistent e.blank) (is_empty (seat_at s.seats i)) _ _
+      (λ _. admitted_consistent e same s o i l d) (λ _. agreement e same s o i l))
+      (seat_bounded e.blank s o.bounded i d)
+
+  pub take_sound : ((x : E) → e.same x x ≡ true) → (i : ℕ) → Sound e.blank (take_outcome e s i).1
+  take_sound same i =
+      if_there e.blank s o i _ _ refl (grind arith) (λ l. taken_consistent e same s o i l (takeable e (seat_at s.seats i)))
+      (take_bounded e.blank s o.bounded e i)
+
+  pub clear_sound : Sound e.blank (clear_outcome s)
+  clear_sound =
+      record {
+        bounded = clear_bounded e.blank s o.bounded;
+        few_workers = o.few_workers;
+        consistent = λ m. record {
+          head_true = (o.consistent m).head_true;
+          seats_true = λ j l. subst (λ q. SeatTrue e.blank s.cells (head_of e.blank s.heads) q)
+              (sym (get_or_filled s.count Empty s.seats j Empty l)) tt;
+        };
+      }

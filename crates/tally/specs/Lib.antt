@@ -1,0 +1,5 @@
+pub mod TallyKinds
+pub mod TallyStates
+pub mod TallyCalls
+pub mod TallySound
+pub mod TallyMeaning

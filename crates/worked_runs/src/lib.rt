@@ -1,0 +1,5 @@
+#![tactic(auto)]
+
+// Pieces through the one interface, as tests. They stand in a crate above all pieces, so that what they test is proved once.
+#[cfg(test)]
+mod tests;
