@@ -1,5 +1,6 @@
 -- What an element kind is, and the three of them.
-use Rattle.std.specs.Prelude.{Bool, true, ◌==◌}
+use Rattle.std.specs.Prelude.{◌≡◌, Bool, true, ◌==◌, refl}
+use Rattle.std.proofs.Common.{eq-eqb}
 use Rattle.elements.specs.declared.kinds.Bin.{Bin}
 use Rattle.elements.specs.declared.kinds.Amount.{Amount}
 use Rattle.elements.specs.declared.kinds.Slip.{Slip}
@@ -24,3 +25,13 @@ amount_kind = record { blank = record { units = 0 }; same = λ a b. (a.units == 
 -- slips are the same when their batch numbers agree, whatever their totals and stations
 abbrev pub slip_kind : ElementKind Slip
 slip_kind = record { blank = record { batch = 0; total = 0; station = 0 }; same = λ a b. (a.batch == b.batch) }
+
+-- each element is the same as itself
+pub same_bin : (x : Bin) → bin_kind.same x x ≡ true
+same_bin x = eq-eqb x.number x.number refl
+
+pub same_amount : (x : Amount) → amount_kind.same x x ≡ true
+same_amount x = eq-eqb x.units x.units refl
+
+pub same_slip : (x : Slip) → slip_kind.same x x ≡ true
+same_slip x = eq-eqb x.batch x.batch refl

@@ -1,7 +1,6 @@
 // An element kind, and the three of them.
 ghost use Rattle.std.specs.Prelude.{◌≡◌, true};
-ghost use Rattle.elements.specs.Kinds.{ElementKind, bin_kind, amount_kind, slip_kind};
-ghost use Rattle.std.proofs.Common.{rules};
+ghost use Rattle.elements.specs.Kinds.{ElementKind, bin_kind, amount_kind, slip_kind, same_bin, same_amount, same_slip};
 
 use crate::kinds::{Amount, Bin, Slip};
 
@@ -21,7 +20,7 @@ pub trait Element: Copy {
 impl Element for Bin {
     ghost kind = { bin_kind };
 
-    ghost reflexive = { Prim.search rules };
+    ghost reflexive = { same_bin };
 
     fn blank() -> Bin {
         Bin { number: 0 }
@@ -35,7 +34,7 @@ impl Element for Bin {
 impl Element for Amount {
     ghost kind = { amount_kind };
 
-    ghost reflexive = { Prim.search rules };
+    ghost reflexive = { same_amount };
 
     fn blank() -> Amount {
         Amount { units: 0 }
@@ -49,7 +48,7 @@ impl Element for Amount {
 impl Element for Slip {
     ghost kind = { slip_kind };
 
-    ghost reflexive = { Prim.search rules };
+    ghost reflexive = { same_slip };
 
     fn blank() -> Slip {
         Slip {

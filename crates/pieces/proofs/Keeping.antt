@@ -93,18 +93,12 @@ module _ {E : Type 0} (d d' : E) (s : TrayState E) where
             (seat_true_any d d' s.room p s.seatings s.cells b.cells_long (head_of d s.heads) (seat_at s.seats j) (b.seats_ok j l) (o.seats_true j l));
       }
 
+  bounded_any : Bounded d s → Bounded d' s
+  bounded_any b = record { seats_long = b.seats_long; room_small = b.room_small; few = b.few; held = λ m. held_any _ (b.held m) }
+
   sound_any : Sound d s → Sound d' s
   sound_any o =
-      record {
-        bounded = record {
-          seats_long = o.bounded.seats_long;
-          room_small = o.bounded.room_small;
-          few = o.bounded.few;
-          held = λ m. held_any _ (o.bounded.held m);
-        };
-        few_workers = o.few_workers;
-        consistent = λ m. consistent_any _ (o.bounded.held m) (o.consistent m);
-      }
+      record { bounded = bounded_any o.bounded; few_workers = o.few_workers; consistent = λ m. consistent_any _ (o.bounded.held m) (o.consistent m) }
 
 -- out of a tray's type
 pub known : {E : Type 0} → Coded E → (blank : E) (r : Strips E) → ∥ AlwaysSound r ∥₁ → Sound blank (state_of r)
