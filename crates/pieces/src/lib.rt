@@ -1,4 +1,4 @@
-// The shared objects.
+// What a piece is, a shared object that workers use one access at a time, and what it has to show; and the tray.
 #![tactic(auto)]
 
 pub mod alone;

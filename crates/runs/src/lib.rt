@@ -1,4 +1,4 @@
-// Runs of the shared objects: any list of calls of a tray, and the run of the held feeder.
+// Runs of the shared objects: any list of calls of a tray, what no run brings back, and the run of the held feeder.
 #![tactic(auto)]
 
 pub mod events;
