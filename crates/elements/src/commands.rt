@@ -1,4 +1,6 @@
 // What a worker asks of a shared object, and what it is told.
+ghost use Rattle.std.specs.Prelude.{◌≡◌};
+ghost use Rattle.elements.specs.Codes.{reply};
 
 // A command: a kind number and an element. Any number comes in; whether it is known is a question the object asks.
 #[derive(Clone, Copy, PartialEq, Eq, Debug)]
@@ -12,6 +14,18 @@ pub struct Command<E> {
 pub struct Reply<E> {
     pub code: u8,
     pub element: E,
+}
+
+impl<E> Reply<E> {
+    // A reply with a code of the collection's own.
+    pub fn new(code: Code, element: E) -> Reply<E>
+        ensures { result ≡ reply code element }
+    {
+        Reply {
+            code: u8::from(code),
+            element,
+        }
+    }
 }
 
 // The reply codes of the collection's own objects. Another object may have others, but for 0 and 9.

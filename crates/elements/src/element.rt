@@ -26,8 +26,8 @@ impl Element for Bin {
         Bin { number: 0 }
     }
 
-    fn same(self, other: Bin) -> bool {
-        self.number == other.number
+    fn same(self, bin: Bin) -> bool {
+        self == bin
     }
 }
 
@@ -40,8 +40,8 @@ impl Element for Amount {
         Amount { units: 0 }
     }
 
-    fn same(self, other: Amount) -> bool {
-        self.units == other.units
+    fn same(self, amount: Amount) -> bool {
+        self == amount
     }
 }
 

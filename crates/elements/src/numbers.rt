@@ -8,11 +8,11 @@ use crate::answers::StepAnswer;
 use crate::commands::Code;
 use crate::refusals::{Cause, Layer};
 
-impl StepAnswer {
-    pub fn number(self) -> u8
-        ensures { result ≡ answer_number self }
-    {
-        match self {
+impl From<StepAnswer> for u8 {
+    ghost from_gives = { λ x n. n ≡ answer_number x };
+
+    fn from(answer: StepAnswer) -> u8 {
+        match answer {
             StepAnswer::Moved => 1,
             StepAnswer::Settled => 2,
             StepAnswer::SettledEnded => 3,
@@ -22,11 +22,11 @@ impl StepAnswer {
     }
 }
 
-impl Code {
-    pub fn number(self) -> u8
-        ensures { result ≡ code_number self }
-    {
-        match self {
+impl From<Code> for u8 {
+    ghost from_gives = { λ x n. n ≡ code_number x };
+
+    fn from(code: Code) -> u8 {
+        match code {
             Code::Done => 1,
             Code::Full => 2,
             Code::Popped => 3,
@@ -39,11 +39,11 @@ impl Code {
     }
 }
 
-impl Cause {
-    pub fn number(self) -> u8
-        ensures { result ≡ cause_number self }
-    {
-        match self {
+impl From<Cause> for u8 {
+    ghost from_gives = { λ x n. n ≡ cause_number x };
+
+    fn from(cause: Cause) -> u8 {
+        match cause {
             Cause::NoSuchWorker => 1,
             Cause::NotIdle => 2,
             Cause::UnknownManner => 3,

@@ -10,7 +10,7 @@ use runs::held_feeder::held_feeder;
 use runs::off::off;
 
 fn print_refusal(rt: &impl Print, worker: usize, refusal: Refusal) -> anyhow::Result<()> {
-    let number = refusal.cause.number();
+    let number = u8::from(refusal.cause);
     println!(rt; "feeder {worker} refused {number}")?;
     Ok(())
 }
@@ -58,7 +58,7 @@ fn print_access(rt: &impl Print, access: Access<Slip>) -> anyhow::Result<()> {
     let number = access.number;
     match access.answer {
         Ok(answer) => {
-            let answer = answer.number();
+            let answer = u8::from(answer);
             print!(rt; "feeder {worker} access {number} answer {answer}")?;
             print_head(rt, access.head)?;
             print_touched(rt, access.touched)?;

@@ -13,7 +13,7 @@ fn taken_off<E: Element>(event: Event<E>) -> Option<E>
 {
     match event {
         Event::Taken(_, Ok(reply)) => {
-            if reply.code == Code::Popped.number() {
+            if reply.code == u8::from(Code::Popped) {
                 Some(reply.element)
             } else {
                 None

@@ -44,7 +44,7 @@ fn pop() -> Command<Bin> {
 fn steps(rt: &impl Abort, tray: &mut Tray<Bin>, worker: usize, answers: &[u8]) -> Result<(), Fail> {
     for answer in answers {
         let given = tray.step(worker)?;
-        assert_eq!(rt; given.number(), *answer);
+        assert_eq!(rt; u8::from(given), *answer);
     }
     Ok(())
 }

@@ -20,10 +20,7 @@ fn over(limit: u32, total: u32, command: Command<Amount>) -> bool
 pub(crate) fn reply_of(code: Code, units: u32) -> Reply<Amount>
     ensures { result ≡ reply code (record { units = units }) }
 {
-    Reply {
-        code: code.number(),
-        element: Amount { units },
-    }
+    Reply::new(code, Amount { units })
 }
 
 // Access 1: what it answers, and what the seat then holds, for a command that finds this pair.

@@ -14,7 +14,7 @@ fn steps<P: Piece>(
 ) -> Result<(), Fail> {
     for answer in answers {
         let given = piece.step(worker)?;
-        assert_eq!(rt; given.number(), *answer);
+        assert_eq!(rt; u8::from(given), *answer);
     }
     Ok(())
 }

@@ -145,10 +145,7 @@ pub(super) fn limit_reply<E: Element>(command: Command<E>) -> Reply<E>
     } else {
         Code::Empty
     };
-    Reply {
-        code: code.number(),
-        element: E::blank(),
-    }
+    Reply::new(code, E::blank())
 }
 
 // The reply of a try that moved the head.
@@ -156,15 +153,9 @@ pub(super) fn done_reply<E: Element>(attempt: Try<E>) -> Reply<E>
     ensures { result ≡ done_reply E.Element.kind attempt }
 {
     if pushes(attempt.command) {
-        Reply {
-            code: Code::Done.number(),
-            element: E::blank(),
-        }
+        Reply::new(Code::Done, E::blank())
     } else {
-        Reply {
-            code: Code::Popped.number(),
-            element: attempt.head.element,
-        }
+        Reply::new(Code::Popped, attempt.head.element)
     }
 }
 
@@ -194,10 +185,7 @@ pub(super) fn reply_in<E: Element>(seat: Seat<E>) -> Option<Reply<E>>
     ensures { result ≡ takeable E.Element.kind seat }
 {
     match seat {
-        Seat::Loaded(_) => Some(Reply {
-            code: Code::StoodOff.number(),
-            element: E::blank(),
-        }),
+        Seat::Loaded(_) => Some(Reply::new(Code::StoodOff, E::blank())),
         Seat::Ended(reply) => Some(reply),
         _ => None,
     }
