@@ -1,20 +1,19 @@
 -- Every call leaves a tray within its bounds.
-use Rattle.std.proofs.Common.{◌≡◌, ℕ, zero, suc, ◌+◌, ◌<◌, ◌≤◌, Bool, true, false, cond, ltb, List, [], ◌∷◌, length, take, set, replicate, Some, None, Option, sym, refl, ap, ◌∙◌, subst, inl, inr, zero-le, le_refl, le_of_suc-le-suc, arith}
+use Rattle.std.proofs.Common.{◌≡◌, ℕ, zero, suc, ◌+◌, ◌<◌, ◌≤◌, Bool, true, false, cond, List, [], ◌∷◌, length, take, set, replicate, sym, refl, ap, ◌∙◌, subst, inl, inr, zero-le, le_refl, le_of_suc-le-suc, arith}
 use Rattle.std.proofs.lemmas.List.{length-set, length-take-le, get_or-take, get_or-set_same, get_or-set_other}
-use Rattle.std.proofs.lemmas.Bool.{cases_eq, ltb-true}
+use Rattle.std.proofs.lemmas.Bool.{cases_eq}
 use Rattle.elements.specs.Kinds.{ElementKind}
-use Rattle.elements.specs.declared.commands.Command.{Command}
-use Rattle.elements.specs.declared.commands.Reply.{Reply}
 use Rattle.pieces.specs.declared.tray.records.Cell.{Cell}
 use Rattle.pieces.specs.declared.tray.records.Head.{Head}
 use Rattle.pieces.specs.declared.tray.records.Try.{Try}
 use Rattle.pieces.specs.declared.tray.records.Next.{Next}
-use Rattle.pieces.specs.declared.tray.records.Seat.{Seat}
-use Rattle.pieces.specs.declared.tray.records.Seat.TheVariants.{Empty, Loaded, HeadRead, CellRead, CellWritten, NeighbourRead, Ended}
-use Rattle.pieces.specs.TrayKinds.{tray_knows}
-use Rattle.pieces.specs.TrayStates.{TrayState, cell_at, head_of, seat_at}
+use Rattle.pieces.specs.TrayKinds.{TrayCommand, TraySeat}
+use Rattle.pieces.specs.declared.seats.Seat.TheVariants.{Empty, Loaded, Ended, Running}
+use Rattle.pieces.specs.declared.tray.records.Phase.TheVariants.{HeadRead, CellRead, CellWritten, NeighbourRead}
+use Rattle.pieces.specs.Seats.{seat_at}
+use Rattle.pieces.specs.TrayStates.{TrayState, state_of, cell_at, head_of, with_seat}
 use Rattle.pieces.specs.TrayAccess.{at_limit, settled_early, neighbour, helps, helped_cells, next_of, unchanged, moved_head, limit_reply, done_reply, accessed}
-use Rattle.pieces.specs.TrayCalls.{filled, admitted, is_empty, seat_outcome, step_outcome, takeable, taken, take_outcome, clear_outcome}
+use Rattle.pieces.specs.TrayCalls.{filled, clear_outcome}
 use Rattle.pieces.specs.TrayBounds.{unsettled, all_unsettled, TryOk, SeatOk, Held, Bounded}
 use Rattle.pieces.proofs.Filling.{take_filled, length_filled, get_or_filled}
 use Rattle.pieces.specs.Calls.{most_seatings}
@@ -25,7 +24,7 @@ use Rattle.pieces.proofs.TickLaws.{tick_kept, tick_up}
 use Rattle.pieces.proofs.Ticks.{try_kept, seat_kept, goes}
 
 -- another seat changes the number of unsettled ones by its own
-unsettled_set : {E : Type 0} (k : ℕ) (ss : List (Seat E)) (i : ℕ) (q : Seat E) → i < length ss
+unsettled_set : {E : Type 0} (k : ℕ) (ss : List (TraySeat E)) (i : ℕ) (q : TraySeat E) → i < length ss
     → all_unsettled k (set ss i q) + unsettled k (seat_at ss i) ≡ all_unsettled k ss + unsettled k q
 unsettled_set k [] i q l = omega arith
 unsettled_set k (x ∷ xs) zero q l = omega arith
@@ -39,7 +38,7 @@ module _ {E : Type 0} (blank : E) (s : TrayState E) (b : Bounded blank s) (i : �
   abbrev before : ℕ
   before = all_unsettled s.room (take s.count s.seats)
 
-  abbrev after : Seat E → ℕ
+  abbrev after : TraySeat E → ℕ
   after q = all_unsettled s.room (take s.count (set s.seats i q))
 
   -- what is true of a tray with workers
@@ -49,7 +48,7 @@ module _ {E : Type 0} (blank : E) (s : TrayState E) (b : Bounded blank s) (i : �
   within : i < length (take s.count s.seats)
   within = omega (arith, length-take-le s.count s.seats b.seats_long)
 
-  counted : (q : Seat E) → after q + unsettled s.room (seat_at s.seats i) ≡ before + unsettled s.room q
+  counted : (q : TraySeat E) → after q + unsettled s.room (seat_at s.seats i) ≡ before + unsettled s.room q
   counted q =
       omega (
         arith,
@@ -59,7 +58,7 @@ module _ {E : Type 0} (blank : E) (s : TrayState E) (b : Bounded blank s) (i : �
       )
 
   -- worker i has another seat, in a tray with other cells, another head and more seatings
-  reseated : (cs : List (Cell E)) (hs : List (Head E)) (q : Seat E) (g : ℕ)
+  reseated : (cs : List (Cell E)) (hs : List (Head E)) (q : TraySeat E) (g : ℕ)
       → after q + s.seatings ≤ before + g → g ≤ most_seatings
       → length cs ≡ length s.cells → length hs ≡ length s.heads → (head_of blank hs).index ≤ s.room
       → ((y : ℕ) → y ≤ s.room → TickOk (after q) g (cell_at blank cs y).tick) → TickOk (after q) g (head_of blank hs).tick
@@ -88,7 +87,7 @@ module _ {E : Type 0} (blank : E) (s : TrayState E) (b : Bounded blank s) (i : �
       }
 
   -- only the seat is another
-  quiet : (q : Seat E) (g : ℕ) → after q + s.seatings ≤ before + g → g ≤ most_seatings → SeatOk s.room (after q) g q
+  quiet : (q : TraySeat E) (g : ℕ) → after q + s.seatings ≤ before + g → g ≤ most_seatings → SeatOk s.room (after q) g q
       → Bounded blank (record { cells = s.cells; heads = s.heads; seats = set s.seats i q; seatings = g; room = s.room; count = s.count })
   quiet q g more few ok =
       reseated s.cells s.heads q g more few refl refl held.top
@@ -96,10 +95,10 @@ module _ {E : Type 0} (blank : E) (s : TrayState E) (b : Bounded blank s) (i : �
       (tick_kept before s.seatings (after q) g more held.head_ok) ok
 
   -- what a seat that is no more unsettled than before leaves
-  fewer : (q q' : Seat E) → seat_at s.seats i ≡ q → unsettled s.room q' ≤ unsettled s.room q → after q' + s.seatings ≤ before + s.seatings
+  fewer : (q q' : TraySeat E) → seat_at s.seats i ≡ q → unsettled s.room q' ≤ unsettled s.room q → after q' + s.seatings ≤ before + s.seatings
   fewer q q' e m = omega (arith, counted q', ap (unsettled s.room) e)
 
-  helped : (e : ElementKind E) (t : Try E) (u : E) (q : Seat E) → after q + s.seatings ≤ before + s.seatings
+  helped : (e : ElementKind E) (t : Try E) (u : E) (q : TraySeat E) → after q + s.seatings ≤ before + s.seatings
       → TryOk s.room before s.seatings t → SeatOk s.room (after q) s.seatings q
       → Bounded blank (record { cells = helped_cells e s.cells t u; heads = s.heads; seats = set s.seats i q; seatings = s.seatings; room = s.room; count = s.count })
   helped e t u q more try ok = go (helps e (cell_at e.blank s.cells t.head.index) t u)
@@ -131,7 +130,7 @@ module _ {E : Type 0} (blank : E) (s : TrayState E) (b : Bounded blank s) (i : �
       go false = quiet q s.seatings more b.few ok
 
   -- the head moves, and one seat more has settled
-  moved : (e : ElementKind E) (t : Try E) (x : Next E) (q : Seat E) → after q + 1 ≤ before → SeatOk s.room before s.seatings (NeighbourRead t x)
+  moved : (e : ElementKind E) (t : Try E) (x : Next E) (q : TraySeat E) → after q + 1 ≤ before → SeatOk s.room before s.seatings (Running (NeighbourRead t x))
       → SeatOk s.room (after q) s.seatings q
       → Bounded blank (record { cells = s.cells; heads = set s.heads 0 (moved_head e t x); seats = set s.seats i q; seatings = s.seatings; room = s.room; count = s.count })
   moved e t x q less o ok =
@@ -144,36 +143,36 @@ module _ {E : Type 0} (blank : E) (s : TrayState E) (b : Bounded blank s) (i : �
       ok
 
   -- an access of worker i, whose seat is q
-  access_bounded : (e : ElementKind E) → e.blank ≡ blank → (q : Seat E) → seat_at s.seats i ≡ q → SeatOk s.room before s.seatings q
+  pub access_bounded : (e : ElementKind E) → e.blank ≡ blank → (q : TraySeat E) → seat_at s.seats i ≡ q → SeatOk s.room before s.seatings q
       → Bounded blank (accessed e s i q).1
   access_bounded e f Empty at o = b
   access_bounded e f (Loaded c) at o =
-      let more = fewer (Loaded c) (HeadRead (record { command = c; head = head_of e.blank s.heads })) at (at_most_one (at_limit s.room (head_of e.blank s.heads) c)) in
+      let more = fewer (Loaded c) (Running (HeadRead (record { command = c; head = head_of e.blank s.heads }))) at (at_most_one (at_limit s.room (head_of e.blank s.heads) c)) in
       quiet _ s.seatings more b.few
       (record {
         index = subst (λ d. (head_of d s.heads).index ≤ s.room) (sym f) held.top;
         tick = tick_kept before s.seatings _ s.seatings more (subst (λ d. TickOk before s.seatings (head_of d s.heads).tick) (sym f) held.head_ok);
       })
-  access_bounded e f (HeadRead t) at o =
-      let more = fewer (HeadRead t) (CellRead t (cell_at e.blank s.cells t.head.index).element) at (le_refl (cond (settled_early s.room t) 0 1)) in
+  access_bounded e f (Running (HeadRead t)) at o =
+      let more = fewer (Running (HeadRead t)) (Running (CellRead t (cell_at e.blank s.cells t.head.index).element)) at (le_refl (cond (settled_early s.room t) 0 1)) in
       quiet _ s.seatings more b.few (try_kept before s.seatings _ s.seatings more o)
-  access_bounded e f (CellRead t u) at o = go (settled_early s.room t) refl
+  access_bounded e f (Running (CellRead t u)) at o = go (settled_early s.room t) refl
     where
       go : (y : Bool) → settled_early s.room t ≡ y
           → Bounded blank (record {
             cells = helped_cells e s.cells t u;
             heads = s.heads;
-            seats = set s.seats i (cond y (Ended (limit_reply e t.command)) (CellWritten t));
+            seats = set s.seats i (cond y (Ended (limit_reply e t.command)) (Running (CellWritten t)));
             seatings = s.seatings;
             room = s.room;
             count = s.count;
           })
-      go true y = helped e t u _ (fewer (CellRead t u) (Ended (limit_reply e t.command)) at zero-le) o tt
+      go true y = helped e t u _ (fewer (Running (CellRead t u)) (Ended (limit_reply e t.command)) at zero-le) o tt
       go false y =
-          let more = fewer (CellRead t u) (CellWritten t) at (omega (arith, ap (λ z. cond {A = ℕ} z 0 1) y)) in
+          let more = fewer (Running (CellRead t u)) (Running (CellWritten t)) at (omega (arith, ap (λ z. cond {A = ℕ} z 0 1) y)) in
           helped e t u _ more o (try_kept before s.seatings _ s.seatings more o, y)
-  access_bounded e f (CellWritten t) at o =
-      let more = fewer (CellWritten t) (NeighbourRead t (next_of e s.cells t)) at (le_refl 1) in
+  access_bounded e f (Running (CellWritten t)) at o =
+      let more = fewer (Running (CellWritten t)) (Running (NeighbourRead t (next_of e s.cells t))) at (le_refl 1) in
       quiet _ s.seatings more b.few (
         try_kept before s.seatings _ s.seatings more o.0,
         o.1,
@@ -181,48 +180,26 @@ module _ {E : Type 0} (blank : E) (s : TrayState E) (b : Bounded blank s) (i : �
             (subst (λ d. TickOk before s.seatings (cell_at d s.cells (neighbour t)).tick) (sym f)
             (held.cells_ok (neighbour t) (goes s.room t o.0.index o.1).0)),
       )
-  access_bounded e f (NeighbourRead t x) at o =
+  access_bounded e f (Running (NeighbourRead t x)) at o =
       by_test (Bounded blank) (unchanged e (head_of e.blank s.heads) t) _ _
       (λ _. moved e t x (Ended (done_reply e t)) (omega (arith, counted (Ended (done_reply e t)), ap (unsettled s.room) at)) o tt)
-      (λ _. quiet (Loaded t.command) s.seatings (fewer (NeighbourRead t x) (Loaded t.command) at (le_refl 1)) b.few tt)
+      (λ _. quiet (Loaded t.command) s.seatings (fewer (Running (NeighbourRead t x)) (Loaded t.command) at (le_refl 1)) b.few tt)
   access_bounded e f (Ended r) at o = b
 
-  -- what is taken from a seat leaves it empty
-  taken_bounded : (o : Option (Reply E)) → Bounded blank (taken s i o).1
-  taken_bounded None = b
-  taken_bounded (Some r) = quiet Empty s.seatings (fewer (seat_at s.seats i) Empty refl zero-le) b.few tt
+  -- a seat is emptied
+  pub emptied_bounded : Bounded blank (with_seat s i Empty)
+  emptied_bounded = quiet Empty s.seatings (fewer (seat_at s.seats i) Empty refl zero-le) b.few tt
 
-  -- a command that is seated is one seating more
-  admitted_bounded : (c : Command E) → Bounded blank (admitted s i c).1
-  admitted_bounded c =
-      by_test (Bounded blank) (tray_knows c.kind) _ _
-      (λ _. by_test (Bounded blank) (ltb s.seatings most_seatings) _ _
-      (λ f. quiet (Loaded c) (s.seatings + 1) (omega (arith, counted (Loaded c))) (omega (arith, ltb-true s.seatings most_seatings f)) tt)
-      (λ _. b))
-      (λ _. b)
+  -- or loaded, which is one seating more
+  pub loaded_bounded : (c : TrayCommand E) → s.seatings < most_seatings
+      → Bounded blank (state_of s.cells s.heads (set s.seats i (Loaded c)) (s.seatings + 1) s.room s.count)
+  loaded_bounded c f = quiet (Loaded c) (s.seatings + 1) (omega (arith, counted (Loaded c))) (omega arith) tt
 
-pub none_unsettled : {E : Type 0} (k n : ℕ) (q : Seat E) → q ≡ Empty → all_unsettled k (replicate n q) ≡ 0
+pub none_unsettled : {E : Type 0} (k n : ℕ) (q : TraySeat E) → q ≡ Empty → all_unsettled k (replicate n q) ≡ 0
 none_unsettled k zero q e = refl
 none_unsettled k (suc n) q e = omega (arith, none_unsettled k n q e, ap (unsettled k) e)
 
 module _ {E : Type 0} (blank : E) (s : TrayState E) (b : Bounded blank s) where
-  pub seat_bounded : (i : ℕ) (c : Command E) → Bounded blank (seat_outcome s i c).1
-  seat_bounded i c =
-      by_test (Bounded blank) (ltb i s.count) _ _
-      (λ f. by_test (Bounded blank) (is_empty (seat_at s.seats i)) _ _ (λ _. admitted_bounded blank s b i (ltb-true i s.count f) c) (λ _. b)) (λ _. b)
-
-  pub step_bounded : (e : ElementKind E) → e.blank ≡ blank → (i : ℕ) → Bounded blank (step_outcome e s i).1
-  step_bounded e f i =
-      by_test (Bounded blank) (ltb i s.count) _ _
-      (λ g. let l : i < s.count = ltb-true i s.count g in
-      access_bounded blank s b i l e f (seat_at s.seats i) refl ((held blank s b i l).seats_ok i l))
-      (λ _. b)
-
-  pub take_bounded : (e : ElementKind E) (i : ℕ) → Bounded blank (take_outcome e s i).1
-  take_bounded e i =
-      by_test (Bounded blank) (ltb i s.count) _ _
-      (λ f. taken_bounded blank s b i (ltb-true i s.count f) (takeable e (seat_at s.seats i))) (λ _. b)
-
   abbrev left : ℕ
   left = all_unsettled s.room (take s.count (filled s.count Empty s.seats))
 

@@ -1,22 +1,65 @@
 -- What a call of a piece does, by its worker: one that there is, or one that there is not.
-use Rattle.std.proofs.Common.{◌≡◌, ℕ, ◌<◌, Bool, true, false, cond, ltb, None, Ok, Err, Option, Result, sym, refl, ap, ◌∙◌, subst}
-use Rattle.std.proofs.lemmas.Bool.{ltb-true, lt-ltb}
+use Rattle.std.proofs.Common.{◌≡◌, ℕ, ◌+◌, ◌<◌, Bool, true, false, cond, ltb, List, None, Ok, Err, Option, Result, sym, refl, ap, ◌∙◌, subst, set}
+use Rattle.std.proofs.lemmas.Bool.{both_ways, ltb-true, lt-ltb, cond-true, cond-false}
 use Rattle.elements.specs.Outcomes.{Exactly, unless_refused}
+use Rattle.std.specs.Result.{IsErr, IsErrAnd}
 use Rattle.elements.specs.Refusals.{refusal, ask}
 use Rattle.elements.specs.declared.answers.StepAnswer.{StepAnswer}
 use Rattle.elements.specs.declared.refusals.Refusal.{Refusal}
-use Rattle.elements.specs.declared.refusals.Cause.TheVariants.{NoSuchWorker, NothingToStep}
+use Rattle.elements.specs.declared.refusals.Cause.TheVariants.{NoSuchWorker, NotIdle, UnknownKind, NoSeatingsLeft, NothingToStep, NothingToTake}
 use Rattle.elements.specs.declared.refusals.Layer.TheVariants.{Piece}
-use Rattle.pieces.specs.Names.{Names}
-use Rattle.pieces.specs.Views.{SeatView, PieceView, workers_of, seat_of}
+use Rattle.pieces.specs.Names.{Names, knows}
+use Rattle.pieces.specs.Views.{SeatView, empty, loaded, PieceView, workers_of, seat_of}
 use Rattle.pieces.specs.Accesses.{Allowed, left_at, view_left}
-use Rattle.pieces.specs.Outcomes.{if_worker}
-use Rattle.pieces.specs.Calls.{can_step, step_refusal, Stepped}
+use Rattle.pieces.specs.Outcomes.{refused, if_worker}
+use Rattle.pieces.specs.Calls.{most_seatings, is_empty as is_empty_view, can_step, can_take, reply_at, reseated, step_refusal, seated, taken, Stepped}
+use Rattle.pieces.specs.Seats.{seat_at, is_empty, reply_in, seat_asked, taken_or, take_asked}
+use Rattle.pieces.specs.declared.seats.Seat.{Seat}
+use Rattle.elements.specs.declared.commands.Command.{Command}
+use Rattle.elements.specs.declared.commands.Reply.{Reply}
 
 -- what a call leaves, by a test
 pub by_test : {R M : Type 0} (P : M → Type 0) (b : Bool) (y z : R × M) → (b ≡ true → P y.1) → (b ≡ false → P z.1) → P (cond b y z).1
 by_test P true y z f g = f refl
 by_test P false y z f g = g refl
+
+-- an error that `?` hands on
+pub handed_on : {A : Type 0} (r : Result A Refusal) (x : Refusal) → IsErr r × IsErrAnd r (λ y. y ≡ x) → r ≡ Err x
+handed_on (Ok a) x o = absurd (both_ways false refl o.0)
+handed_on (Err y) x o = ap (λ z. Err z) o.1
+
+-- a call of a worker that there is
+pub if_there : {R M : Type 0} {r : Result R Refusal} {s : M} (n : ℕ) (m : M) (i : ℕ) {y : Result R Refusal × M} → i < n → Exactly r s y → Exactly r s (if_worker n m i y)
+if_there {r = r} {s = s} n m i {y = y} l o = subst (λ z. Exactly r s z) (sym (cond-true (ltb i n) y _ (lt-ltb i n l))) o
+
+-- what Seat and Take leave of a piece whose workers have the seats qs: the piece as it was, or m'
+module _ {K E T M : Type 0} (qs : List (Seat K E T)) (n : ℕ) (m m' : M) (P : M → Type 0) (was : P m) (i : ℕ) where
+  pub seat_left : (g : ℕ) (known : Bool) → (i < n → known ≡ true → g < most_seatings → P m') → P (seat_asked qs n m i g known m').1
+  seat_left g known then =
+      by_test P (ltb i n) _ _
+      (λ l. by_test P (is_empty (seat_at qs i)) _ _
+      (λ _. by_test P known _ _
+      (λ k. by_test P (ltb g most_seatings) _ _ (λ f. then (ltb-true i n l) k (ltb-true g most_seatings f)) (λ _. was))
+      (λ _. was)) (λ _. was)) (λ _. was)
+
+  pub take_left : (blank : E) → (i < n → P m') → P (take_asked qs n m blank i m').1
+  take_left blank then = by_test P (ltb i n) _ _ (λ l. go (ltb-true i n l) (reply_in blank (seat_at qs i))) (λ _. was)
+    where
+      go : i < n → (r : Result (Reply E) Refusal) → P (taken_or qs n m m' r).1
+      go l (Ok r) = then l
+      go l (Err x) = was
+
+-- a Seat that no question refuses, and one that the last refuses
+module _ {K E T M : Type 0} (qs : List (Seat K E T)) (n : ℕ) (m m' : M) (i g : ℕ) (known : Bool)
+    (there : i < n) (idle : is_empty (seat_at qs i) ≡ true) (knows : known ≡ true) where
+  seat_asked_last : seat_asked qs n m i g known m' ≡ cond (ltb g most_seatings) (Ok tt, m') (refused m 5 NoSeatingsLeft refl refl)
+  seat_asked_last = cond-true _ _ _ (lt-ltb i n there) ∙ cond-true _ _ _ idle ∙ cond-true _ _ _ knows
+
+  pub seat_last : ltb g most_seatings ≡ false → seat_asked qs n m i g known m' ≡ (Err (refusal Piece 5 NoSeatingsLeft refl refl), m)
+  seat_last none = seat_asked_last ∙ cond-false _ _ _ none
+
+  pub seat_done : g < most_seatings → seat_asked qs n m i g known m' ≡ (Ok tt, m')
+  seat_done more = seat_asked_last ∙ cond-true _ _ _ (lt-ltb g most_seatings more)
 
 -- what a call does exactly is what it means
 pub through : {R M V : Type 0} (view : M → V) {r : R} {m : M} {y : R × M} {z : R × V} → Exactly r m y → ◌≡◌ {A = R × V} (y.0, view y.1) z → Exactly r (view m) z
@@ -72,3 +115,68 @@ module _ {E C M : Type 0} (view : M → PieceView E C) (m : M) (i n : ℕ) (size
   pub step_without : (N : Names E C) → i < n → (w : SeatView E) → seat_of (view m) i ≡ w → can_step w ≡ false
       → Stepped N (view m) i (Err (refusal Piece 6 NothingToStep refl refl)) (view m)
   step_without N l w at cannot = (step_asked l w at ∙ ap (λ b. ask b (refusal Piece 6 NothingToStep refl refl) None) cannot, refl)
+
+  -- a Seat of the command c, which leaves m' if it is not refused, by the answers to its last three questions
+  module _ (N : Names E C) (c : Command E) (m' : M) where
+    abbrev loaded_view : PieceView E C
+    loaded_view = record { content = (view m).content; seatings = (view m).seatings + 1; seats = set (view m).seats i (loaded c) }
+
+    abbrev asked : Bool → Bool → Bool → Result (Unit {0}) Refusal × M
+    asked idle known more =
+        cond idle (cond known (cond more (Ok tt, m') (refused m 5 NoSeatingsLeft refl refl)) (refused m 4 UnknownKind refl refl))
+        (refused m 2 NotIdle refl refl)
+
+    abbrev meant : Bool → Bool → Bool → Result (Unit {0}) Refusal × PieceView E C
+    meant idle known more =
+        unless_refused
+        (ask idle (refusal Piece 2 NotIdle refl refl)
+        (ask known (refusal Piece 4 UnknownKind refl refl) (ask more (refusal Piece 5 NoSeatingsLeft refl refl) None)))
+        (view m) (tt, loaded_view)
+
+    by_answers : (idle known more : Bool) → (known ≡ true → view m' ≡ loaded_view)
+        → ((asked idle known more).0, view (asked idle known more).1) ≡ meant idle known more
+    by_answers true true true shows = λ j. (Ok tt, shows refl j)
+    by_answers true true false shows = refl
+    by_answers true false more shows = refl
+    by_answers false known more shows = refl
+
+    -- it is within the meaning, if the worker's seat means what it is, what is known is what is named, and a command that is
+    -- known and seated is shown as loaded
+    pub seat_within : {K T : Type 0} (qs : List (Seat K E T)) (known : Bool) → known ≡ knows N c
+        → (i < n → is_empty_view (seat_of (view m) i) ≡ is_empty (seat_at qs i)) → (known ≡ true → view m' ≡ loaded_view)
+        → ◌≡◌ {A = Result (Unit {0}) Refusal × PieceView E C}
+        ((seat_asked qs n m i (view m).seatings known m').0, view (seat_asked qs n m i (view m).seatings known m').1) (seated N (view m) i c)
+    seat_within qs known named same shows =
+        by_worker _ (asked (is_empty (seat_at qs i)) known (ltb (view m).seatings most_seatings)) _
+        (λ l.
+        by_answers (is_empty (seat_at qs i)) known (ltb (view m).seatings most_seatings) shows
+        ∙ ap (λ idle. meant idle known (ltb (view m).seatings most_seatings)) (sym (same l))
+        ∙ ap (λ k. meant (is_empty_view (seat_of (view m) i)) k (ltb (view m).seatings most_seatings)) named)
+
+  -- a Take that leaves m' if it is not refused, where the worker's seat means w
+  module _ {K T : Type 0} (N : Names E C) (qs : List (Seat K E T)) (m' : M) where
+    abbrev offered : Seat K E T → Result (Reply E) Refusal × M
+    offered q = taken_or qs n m m' (reply_in N.blank q)
+
+    -- it is within the meaning, if what can be taken from a seat is what its meaning offers, and a seat that is emptied is shown so
+    pub take_within : (i < n → (can_take (seat_of (view m) i) ≡ true → reply_in N.blank (seat_at qs i) ≡ Ok (reply_at N.blank (seat_of (view m) i)))
+        × (can_take (seat_of (view m) i) ≡ false → reply_in N.blank (seat_at qs i) ≡ Err (refusal Piece 7 NothingToTake refl refl)))
+        → view m' ≡ reseated (view m) i empty
+        → ◌≡◌ {A = Result (Reply E) Refusal × PieceView E C}
+        ((take_asked qs n m N.blank i m').0, view (take_asked qs n m N.blank i m').1) (taken N (view m) i)
+    take_within offers shows =
+        by_worker _ (offered (seat_at qs i)) _ (λ l. go (can_take (seat_of (view m) i)) refl (offers l))
+      where
+        go : (b : Bool) → can_take (seat_of (view m) i) ≡ b
+            → (can_take (seat_of (view m) i) ≡ true → reply_in N.blank (seat_at qs i) ≡ Ok (reply_at N.blank (seat_of (view m) i)))
+            × (can_take (seat_of (view m) i) ≡ false → reply_in N.blank (seat_at qs i) ≡ Err (refusal Piece 7 NothingToTake refl refl))
+            → ◌≡◌ {A = Result (Reply E) Refusal × PieceView E C}
+            ((offered (seat_at qs i)).0, view (offered (seat_at qs i)).1)
+            (unless_refused (ask (can_take (seat_of (view m) i)) (refusal Piece 7 NothingToTake refl refl) None) (view m) (reply_at N.blank (seat_of (view m) i), reseated (view m) i empty))
+        go true e w =
+            ap (λ r. ((taken_or qs n m m' r).0, view (taken_or qs n m m' r).1)) (w.0 e)
+            ∙ (λ j. (Ok (reply_at N.blank (seat_of (view m) i)), shows j))
+            ∙ ap (λ b. unless_refused (ask b (refusal Piece 7 NothingToTake refl refl) None) (view m) (reply_at N.blank (seat_of (view m) i), reseated (view m) i empty)) (sym e)
+        go false e w =
+            ap (λ r. ((taken_or qs n m m' r).0, view (taken_or qs n m m' r).1)) (w.1 e)
+            ∙ ap (λ b. unless_refused (ask b (refusal Piece 7 NothingToTake refl refl) None) (view m) (reply_at N.blank (seat_of (view m) i), reseated (view m) i empty)) (sym e)

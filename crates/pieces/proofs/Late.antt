@@ -10,9 +10,10 @@ use Rattle.pieces.specs.declared.tray.records.Cell.{Cell}
 use Rattle.pieces.specs.declared.tray.records.Head.{Head}
 use Rattle.pieces.specs.declared.tray.records.Try.{Try}
 use Rattle.pieces.specs.declared.tray.records.Next.{Next}
-use Rattle.pieces.specs.declared.tray.records.Seat.{Seat}
-use Rattle.pieces.specs.declared.tray.records.Seat.TheVariants.{Empty, Loaded, HeadRead, CellRead, CellWritten, NeighbourRead, Ended}
-use Rattle.pieces.specs.TrayKinds.{is_push}
+use Rattle.pieces.specs.TrayKinds.{TraySeat}
+use Rattle.pieces.specs.declared.seats.Seat.TheVariants.{Empty, Loaded, Ended, Running}
+use Rattle.pieces.specs.declared.tray.records.Phase.TheVariants.{HeadRead, CellRead, CellWritten, NeighbourRead}
+use Rattle.pieces.specs.TrayKinds.{pushes}
 use Rattle.pieces.specs.TrayStates.{cell_at}
 use Rattle.pieces.specs.TrayAccess.{agrees, neighbour, moved_head}
 use Rattle.pieces.specs.TrayBounds.{SeatOk}
@@ -85,11 +86,11 @@ module _ {E : Type 0} (blank : E) (k p g : ℕ) (cs : List (Cell E)) (h : Head E
         (le_trans _ _ _ (subst (λ z. t'.head.tick ≤ℤ (cell_at blank cs z).tick) i (o.past n)) (le_next _ _ e)) q
   ]
 
-  pub write_keeps : (q : Seat E) → SeatOk k p g q → SeatTrue blank cs h q → SeatTrue blank cs' h q
+  pub write_keeps : (q : TraySeat E) → SeatOk k p g q → SeatTrue blank cs h q → SeatTrue blank cs' h q
   write_keeps Empty b o = tt
   write_keeps (Loaded c) b o = tt
-  write_keeps (HeadRead t') b o = write_try t' o
-  write_keeps (CellRead t' u) b o = (
+  write_keeps (Running (HeadRead t')) b o = write_try t' o
+  write_keeps (Running (CellRead t' u)) b o = (
     write_try t' o.0,
     λ f. elim (cases_eq t'.head.index t.head.index) [
       | inl i ↦ absurd (no_later t' o.0 i
@@ -99,8 +100,8 @@ module _ {E : Type 0} (blank : E) (k p g : ℕ) (cs : List (Cell E)) (h : Head E
           ap (λ r. r.element) s ∙ o.1 (subst (λ r. (r.tick +ℤ pos 1) ≡ t'.head.tick) s f)
     ],
   )
-  write_keeps (CellWritten t') b o = (write_try t' o.0, le_trans _ _ _ o.1 (up t'.head.index))
-  write_keeps (NeighbourRead t' x) b o = (
+  write_keeps (Running (CellWritten t')) b o = (write_try t' o.0, le_trans _ _ _ o.1 (up t'.head.index))
+  write_keeps (Running (NeighbourRead t' x)) b o = (
     write_try t' o.0,
     le_trans _ _ _ o.1 (up t'.head.index),
     λ y.
@@ -109,14 +110,14 @@ module _ {E : Type 0} (blank : E) (k p g : ℕ) (cs : List (Cell E)) (h : Head E
         let m = o.2 y in
         record {
           tick = m.tick ∙ sym (ap (λ r. r.tick) s);
-          element = m.element ∙ ap (λ (r : Cell E). cond (is_push t'.command) t'.command.element r.element) (sym s);
+          element = m.element ∙ ap (λ (r : Cell E). cond (pushes t'.command) t'.command.element r.element) (sym s);
         },
   )
   write_keeps (Ended r) b o = tt
 
 -- the head moves to where a try goes that it agrees with
 module _ {E : Type 0} (e : ElementKind E) (cs : List (Cell E)) (h : Head E) (t : Try E) (x : Next E)
-    (a : agrees h t ≡ true) (o : SeatTrue e.blank cs h (NeighbourRead t x)) where
+    (a : agrees h t ≡ true) (o : SeatTrue e.blank cs h (Running (NeighbourRead t x))) where
   abbrev h' : Head E
   h' = moved_head e t x
 
@@ -144,11 +145,11 @@ module _ {E : Type 0} (e : ElementKind E) (cs : List (Cell E)) (h : Head E) (t :
   move_try t' o' =
       record { behind = o'.behind; stands = λ y. absurd (both_ways (agrees h' t') (never_seen t' o') y); past = λ _. all_past t' o' }
 
-  pub move_keeps : (q : Seat E) → SeatTrue e.blank cs h q → SeatTrue e.blank cs h' q
+  pub move_keeps : (q : TraySeat E) → SeatTrue e.blank cs h q → SeatTrue e.blank cs h' q
   move_keeps Empty p = tt
   move_keeps (Loaded c) p = tt
-  move_keeps (HeadRead t') p = move_try t' p
-  move_keeps (CellRead t' u) p = (move_try t' p.0, p.1)
-  move_keeps (CellWritten t') p = (move_try t' p.0, p.1)
-  move_keeps (NeighbourRead t' x') p = (move_try t' p.0, p.1, λ y. absurd (both_ways (agrees h' t') (never_seen t' p.0) y))
+  move_keeps (Running (HeadRead t')) p = move_try t' p
+  move_keeps (Running (CellRead t' u)) p = (move_try t' p.0, p.1)
+  move_keeps (Running (CellWritten t')) p = (move_try t' p.0, p.1)
+  move_keeps (Running (NeighbourRead t' x')) p = (move_try t' p.0, p.1, λ y. absurd (both_ways (agrees h' t') (never_seen t' p.0) y))
   move_keeps (Ended r) p = tt

@@ -3,11 +3,12 @@ pub mod SeatLaws
 pub mod CallLaws
 pub mod Solo
 pub mod Ordinaries
+mod KindLaws
 mod Filling
 mod Ticks
 mod Bounds
 mod Making
-mod Calls
+mod Reaching
 pub mod Keeping
 mod Stack
 mod Late

@@ -8,8 +8,8 @@ use Rattle.pieces.specs.Ticks.{TickOk}
 use Rattle.pieces.proofs.Bounds.{none_unsettled}
 use Rattle.pieces.specs.declared.tray.records.Cell.{Cell}
 use Rattle.pieces.specs.declared.tray.records.Head.{Head}
-use Rattle.pieces.specs.declared.tray.records.Seat.{Seat}
-use Rattle.pieces.specs.declared.tray.records.Seat.TheVariants.{Empty}
+use Rattle.pieces.specs.TrayKinds.{TraySeat}
+use Rattle.pieces.specs.declared.seats.Seat.TheVariants.{Empty}
 use Rattle.pieces.specs.TrayStates.{TrayState, cell_at, head_of, stack, tray_content}
 use Rattle.pieces.specs.TrayCalls.{filled, enough, new_cells, new_heads, made_tray}
 use Rattle.pieces.specs.TrayBounds.{all_unsettled, SeatOk, Bounded}
@@ -17,7 +17,7 @@ use Rattle.pieces.specs.TraySound.{HeadTrue, SeatTrue, Consistent, Sound}
 use Rattle.pieces.proofs.Filling.{take_filled, length_filled, get_or_filled}
 
 -- what strips that hold a tray have
-pub tray_held : {E : Type 0} (cs : List (Cell E)) (hs : List (Head E)) (ss : List (Seat E)) → enough cs hs ss ≡ true
+pub tray_held : {E : Type 0} (cs : List (Cell E)) (hs : List (Head E)) (ss : List (TraySeat E)) → enough cs hs ss ≡ true
     → (1 < length cs) × (0 < length hs) × (0 < length ss)
 tray_held cs hs ss g =
     let a = and_parts (ltb 1 (length cs) && ltb 0 (length hs)) (ltb 0 (length ss)) g in
@@ -25,7 +25,7 @@ tray_held cs hs ss g =
     (ltb-true 1 (length cs) b.0, ltb-true 0 (length hs) b.1, ltb-true 0 (length ss) a.1)
 
 -- a new tray
-module _ {E : Type 0} (blank : E) (e : ElementKind E) (f : e.blank ≡ blank) (cs : List (Cell E)) (hs : List (Head E)) (ss : List (Seat E)) where
+module _ {E : Type 0} (blank : E) (e : ElementKind E) (f : e.blank ≡ blank) (cs : List (Cell E)) (hs : List (Head E)) (ss : List (TraySeat E)) where
   -- strips that hold a tray
   module _ (two : 1 < length cs) (one : 0 < length hs) (some : 0 < length ss) where
     abbrev k : ℕ
@@ -115,7 +115,7 @@ both_none true = refl
 both_none false = refl
 
 -- nothing lies on a new tray
-pub made_empty : {E : Type 0} (e : ElementKind E) (cs : List (Cell E)) (hs : List (Head E)) (ss : List (Seat E)) (s : TrayState E)
+pub made_empty : {E : Type 0} (e : ElementKind E) (cs : List (Cell E)) (hs : List (Head E)) (ss : List (TraySeat E)) (s : TrayState E)
     → s ≡ made_tray e cs hs ss → tray_content e.blank s ≡ []
 made_empty {E} e cs hs ss s made =
     ap (tray_content e.blank) made

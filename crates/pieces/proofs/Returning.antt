@@ -3,14 +3,15 @@ use Rattle.std.proofs.Common.{◌≡◌, ℕ, ◌<◌, Bool, true, false, cond, 
 use Rattle.std.proofs.lemmas.List.{get_or-set_same}
 use Rattle.std.proofs.lemmas.Bool.{ltb-true, both_ways, and_parts}
 use Rattle.elements.specs.Kinds.{ElementKind}
-use Rattle.elements.specs.declared.commands.Command.{Command}
 use Rattle.pieces.proofs.CallLaws.{by_test}
 use Rattle.pieces.specs.declared.tray.records.Head.{Head}
 use Rattle.pieces.specs.declared.tray.records.Try.{Try}
 use Rattle.pieces.specs.declared.tray.records.Next.{Next}
-use Rattle.pieces.specs.declared.tray.records.Seat.{Seat}
-use Rattle.pieces.specs.declared.tray.records.Seat.TheVariants.{Empty, Loaded, HeadRead, CellRead, CellWritten, NeighbourRead, Ended}
-use Rattle.pieces.specs.TrayStates.{TrayState, cell_at, head_of, seat_at, with_cells, with_head, with_seat}
+use Rattle.pieces.specs.TrayKinds.{TrayCommand, TraySeat}
+use Rattle.pieces.specs.declared.seats.Seat.TheVariants.{Empty, Loaded, Ended, Running}
+use Rattle.pieces.specs.declared.tray.records.Phase.TheVariants.{HeadRead, CellRead, CellWritten, NeighbourRead}
+use Rattle.pieces.specs.Seats.{seat_at}
+use Rattle.pieces.specs.TrayStates.{TrayState, cell_at, head_of, with_cells, with_head, with_seat}
 use Rattle.pieces.specs.TrayAccess.{agrees, helps, unchanged, moved_head, accessed}
 use Rattle.pieces.specs.TrayCalls.{step_outcome}
 use Rattle.pieces.specs.TrayBounds.{all_unsettled, SeatOk}
@@ -50,7 +51,7 @@ module _ {E : Type 0} (e : ElementKind E) where
     h = head_of e.blank s.heads
 
     -- the head of now is seen now
-    pub seen_now : 0 < s.count → (c : Command E) → Seen s (record { command = c; head = h })
+    pub seen_now : 0 < s.count → (c : TrayCommand E) → Seen s (record { command = c; head = h })
     seen_now some c =
         record {
           behind = (o.consistent some).head_true.behind;
@@ -63,8 +64,8 @@ module _ {E : Type 0} (e : ElementKind E) where
       unsettled = all_unsettled s.room (take s.count s.seats)
 
       -- access 3, by whether it writes
-      written : (t : Try E) (u : E) → SeatOk s.room unsettled s.seatings (CellRead t u) → SeatTrue e.blank s.cells h (CellRead t u)
-          → (q : Seat E) (w : Bool) → helps e (cell_at e.blank s.cells t.head.index) t u ≡ w
+      written : (t : Try E) (u : E) → SeatOk s.room unsettled s.seatings (Running (CellRead t u)) → SeatTrue e.blank s.cells h (Running (CellRead t u))
+          → (q : TraySeat E) (w : Bool) → helps e (cell_at e.blank s.cells t.head.index) t u ≡ w
           → Later s (with_seat (with_cells s (cond w (set s.cells t.head.index (record { element = t.head.element; tick = t.head.tick })) s.cells)) i q)
       written t u ok p q true w =
           let k = helps_now e (cell_at e.blank s.cells t.head.index) h t u p.0 w in
@@ -77,7 +78,7 @@ module _ {E : Type 0} (e : ElementKind E) where
       written t u ok p q false w = later_quiet s _ refl refl
 
       -- access 5 moves the head
-      moved : (t : Try E) (x : Next E) → SeatTrue e.blank s.cells h (NeighbourRead t x) → (q : Seat E) → agrees h t ≡ true
+      moved : (t : Try E) (x : Next E) → SeatTrue e.blank s.cells h (Running (NeighbourRead t x)) → (q : TraySeat E) → agrees h t ≡ true
           → Later s (with_seat (with_head s (moved_head e t x)) i q)
       moved t x p q a =
           let top : moved_head e t x ≡ head_of e.blank (set s.heads 0 (moved_head e t x)) =
@@ -88,13 +89,13 @@ module _ {E : Type 0} (e : ElementKind E) where
             grown = λ y. le_same _ _ refl;
           }
 
-      access_later : (q : Seat E) → SeatOk s.room unsettled s.seatings q → SeatTrue e.blank s.cells h q → Later s (accessed e s i q).1
+      access_later : (q : TraySeat E) → SeatOk s.room unsettled s.seatings q → SeatTrue e.blank s.cells h q → Later s (accessed e s i q).1
       access_later Empty ok p = later_quiet s s refl refl
       access_later (Loaded c) ok p = later_quiet s _ refl refl
-      access_later (HeadRead t) ok p = later_quiet s _ refl refl
-      access_later (CellRead t u) ok p = written t u ok p _ (helps e (cell_at e.blank s.cells t.head.index) t u) refl
-      access_later (CellWritten t) ok p = later_quiet s _ refl refl
-      access_later (NeighbourRead t x) ok p =
+      access_later (Running (HeadRead t)) ok p = later_quiet s _ refl refl
+      access_later (Running (CellRead t u)) ok p = written t u ok p _ (helps e (cell_at e.blank s.cells t.head.index) t u) refl
+      access_later (Running (CellWritten t)) ok p = later_quiet s _ refl refl
+      access_later (Running (NeighbourRead t x)) ok p =
           by_test (Later s) (unchanged e h t) _ _ (λ f. moved t x p _ (and_parts (agrees h t) _ f).0)
           (λ _. later_quiet s _ refl refl)
       access_later (Ended r) ok p = later_quiet s s refl refl

@@ -11,9 +11,11 @@ use Rattle.pieces.proofs.TickLaws.{tick_eq_true}
 use Rattle.pieces.specs.declared.tray.records.Cell.{Cell}
 use Rattle.pieces.specs.declared.tray.records.Head.{Head}
 use Rattle.pieces.specs.declared.tray.records.Try.{Try}
-use Rattle.pieces.specs.declared.tray.records.Seat.{Seat}
-use Rattle.pieces.specs.declared.tray.records.Seat.TheVariants.{Empty, Loaded, HeadRead, CellRead, CellWritten, NeighbourRead, Ended}
-use Rattle.pieces.specs.TrayStates.{TrayState, cell_at, head_of, seat_at, with_cells, with_head, with_seat}
+use Rattle.pieces.specs.TrayKinds.{TraySeat}
+use Rattle.pieces.specs.declared.seats.Seat.TheVariants.{Empty, Loaded, Ended, Running}
+use Rattle.pieces.specs.declared.tray.records.Phase.TheVariants.{HeadRead, CellRead, CellWritten, NeighbourRead}
+use Rattle.pieces.specs.Seats.{seat_at}
+use Rattle.pieces.specs.TrayStates.{TrayState, cell_at, head_of, with_cells, with_head, with_seat}
 use Rattle.pieces.specs.TrayAccess.{settled_early, agrees, helps, unchanged, moved_head, limit_reply, done_reply, accessed}
 use Rattle.pieces.specs.TrayCalls.{step_outcome}
 use Rattle.pieces.specs.TraySound.{TryTrue, ReadTrue, SeatTrue, Sound}
@@ -36,20 +38,20 @@ module _ {E : Type 0} (e : ElementKind E) (same : (x : E) → e.same x x ≡ tru
       go true y = ap (λ z. agrees h t && z) (ap (λ z. e.same z t.head.element) (o.stands y) ∙ same t.head.element)
       go false y = ap (λ z. z && e.same h.element t.head.element) y ∙ sym (ap (λ z. z && true) y)
 
-  accessed_by_tick : (s : TrayState E) (i : ℕ) (q : Seat E) → SeatTrue e.blank s.cells (head_of e.blank s.heads) q
+  accessed_by_tick : (s : TrayState E) (i : ℕ) (q : TraySeat E) → SeatTrue e.blank s.cells (head_of e.blank s.heads) q
       → accessed e s i q ≡ accessed (uncompared e.blank) s i q
   accessed_by_tick s i Empty o = refl
   accessed_by_tick s i (Loaded c) o = refl
-  accessed_by_tick s i (HeadRead t) o = refl
-  accessed_by_tick s i (CellRead t u) o =
+  accessed_by_tick s i (Running (HeadRead t)) o = refl
+  accessed_by_tick s i (Running (CellRead t u)) o =
       ap (λ y. (
         Ok (cond (settled_early s.room t) AnsweredEnd Moved),
         with_seat (with_cells s (cond y (set s.cells t.head.index (record { element = t.head.element; tick = t.head.tick })) s.cells)) i
-            (cond (settled_early s.room t) (Ended (limit_reply e t.command)) (CellWritten t)),
+            (cond (settled_early s.room t) (Ended (limit_reply e t.command)) (Running (CellWritten t))),
       ))
       (helps_by_tick (cell_at e.blank s.cells t.head.index) (head_of e.blank s.heads) t u o.0 o.1)
-  accessed_by_tick s i (CellWritten t) o = refl
-  accessed_by_tick s i (NeighbourRead t x) o =
+  accessed_by_tick s i (Running (CellWritten t)) o = refl
+  accessed_by_tick s i (Running (NeighbourRead t x)) o =
       ap (λ y. cond {A = Result StepAnswer Refusal × TrayState E} y
       (Ok SettledEnded, with_seat (with_head s (moved_head e t x)) i (Ended (done_reply e t))) (Ok StoodOff, with_seat s i (Loaded t.command)))
       (moves_by_tick (cell_at e.blank s.cells t.head.index) (head_of e.blank s.heads) t o.0)

@@ -1,29 +1,31 @@
 -- Every call leaves a tray sound.
-use Rattle.std.proofs.Common.{◌≡◌, ℕ, ◌+◌, ◌<◌, Bool, true, false, cond, ltb, List, length, take, set, ℤ, pos, ◌+ℤ◌, ◌-ℤ◌, ◌≤ℤ◌, Some, None, Option, sym, refl, ap, ◌∙◌, subst, inl, inr, ⊎_elim, arith}
+use Rattle.std.proofs.Common.{◌≡◌, ℕ, ◌+◌, ◌<◌, ◌≤◌, Bool, true, false, cond, ltb, List, length, take, set, ℤ, pos, ◌+ℤ◌, ◌-ℤ◌, ◌≤ℤ◌, sym, refl, ap, ◌∙◌, subst, inl, inr, ⊎_elim, arith}
 use Rattle.std.proofs.lemmas.List.{get_or-set_same, get_or-set_other}
 use Rattle.std.proofs.lemmas.Int.{ints, by_lt_z}
 use Rattle.std.proofs.lemmas.Bool.{cases_eq, cases_Bool, both_ways, ltb-true, eq-eqb, and_from, and_parts}
 use Rattle.elements.specs.Kinds.{ElementKind}
 use Rattle.elements.specs.declared.commands.Command.{Command}
-use Rattle.elements.specs.declared.commands.Reply.{Reply}
 use Rattle.pieces.specs.Calls.{most_seatings}
 use Rattle.pieces.specs.Ticks.{tick_eq}
-use Rattle.pieces.proofs.CallLaws.{by_test}
-use Rattle.pieces.proofs.TickLaws.{tick_eq_true, tick_eq_same}
+use Rattle.pieces.proofs.CallLaws.{by_test, seat_left, take_left}
+use Rattle.pieces.proofs.TickLaws.{tick_eq_true, tick_eq_same, tick_kept}
+use Rattle.pieces.proofs.Ticks.{seat_kept}
 use Rattle.pieces.specs.declared.tray.records.Cell.{Cell}
 use Rattle.pieces.specs.declared.tray.records.Head.{Head}
 use Rattle.pieces.specs.declared.tray.records.Try.{Try}
 use Rattle.pieces.specs.declared.tray.records.Next.{Next}
-use Rattle.pieces.specs.declared.tray.records.Seat.{Seat}
-use Rattle.pieces.specs.declared.tray.records.Seat.TheVariants.{Empty, Loaded, HeadRead, CellRead, CellWritten, NeighbourRead, Ended}
-use Rattle.pieces.specs.TrayKinds.{tray_knows}
-use Rattle.pieces.specs.TrayStates.{TrayState, cell_at, head_of, seat_at}
+use Rattle.pieces.specs.TrayKinds.{TrayCommand, TraySeat}
+use Rattle.pieces.specs.declared.seats.Seat.TheVariants.{Empty, Loaded, Ended, Running}
+use Rattle.pieces.specs.declared.tray.records.Phase.TheVariants.{HeadRead, CellRead, CellWritten, NeighbourRead}
+use Rattle.pieces.specs.TrayKinds.{tray_knows, tray_command}
+use Rattle.pieces.specs.Seats.{seat_at}
+use Rattle.pieces.specs.TrayStates.{TrayState, state_of, cell_at, head_of, with_seat}
 use Rattle.pieces.specs.TrayAccess.{settled_early, agrees, helps, unchanged, moved_head, limit_reply, done_reply, accessed}
-use Rattle.pieces.specs.TrayCalls.{is_empty, admitted, seat_outcome, step_outcome, takeable, taken, take_outcome, clear_outcome}
-use Rattle.pieces.specs.TrayBounds.{all_unsettled, SeatOk, Held, Bounded}
+use Rattle.pieces.specs.TrayCalls.{loaded, seat_outcome, step_outcome, take_outcome, clear_outcome}
+use Rattle.pieces.specs.TrayBounds.{all_unsettled, SeatOk, Held}
 use Rattle.pieces.specs.TraySound.{HeadTrue, TryTrue, ReadTrue, WriteTrue, SeatTrue, Consistent, Sound}
 use Rattle.pieces.proofs.Filling.{get_or_filled}
-use Rattle.pieces.proofs.Bounds.{held, seat_bounded, step_bounded, take_bounded, clear_bounded}
+use Rattle.pieces.proofs.Bounds.{held, access_bounded, loaded_bounded, emptied_bounded, clear_bounded}
 use Rattle.pieces.proofs.Late.{le_same, not_over, agree_index, agree_tick, cell_same, write_try, write_keeps, move_keeps}
 
 -- one tick behind, said in two ways
@@ -37,7 +39,7 @@ caught_up : (a b : ℤ) → a ≤ℤ (b +ℤ pos 1) → ((b +ℤ pos 1) ≡ a �
 caught_up a b h n = by_lt_z b a (λ l. absurd (n (omega (arith, ints)))) (λ l. l)
 
 -- the head agrees with a try that has just seen it
-pub agrees_now : {E : Type 0} (h : Head E) (c : Command E) → agrees h (record { command = c; head = h }) ≡ true
+pub agrees_now : {E : Type 0} (h : Head E) (c : TrayCommand E) → agrees h (record { command = c; head = h }) ≡ true
 agrees_now h c = and_from _ _ (eq-eqb h.index h.index refl) (tick_eq_same h.tick)
 
 module _ {E : Type 0} (e : ElementKind E) (c : Cell E) (h : Head E) (t : Try E) (u : E) (o : TryTrue c h t) where
@@ -72,7 +74,7 @@ module _ {E : Type 0} (e : ElementKind E) (same : (x : E) → e.same x x ≡ tru
   agreement = o.consistent (omega arith)
 
   -- worker i has another seat, in a tray with other cells, another head and more seatings
-  reseated : (cs : List (Cell E)) (hs : List (Head E)) (q : Seat E) (g : ℕ)
+  reseated : (cs : List (Cell E)) (hs : List (Head E)) (q : TraySeat E) (g : ℕ)
       → HeadTrue (cell_at e.blank cs (head_of e.blank hs).index) (head_of e.blank hs)
       → ((j : ℕ) → j < s.count → SeatTrue e.blank cs (head_of e.blank hs) (seat_at s.seats j))
       → SeatTrue e.blank cs (head_of e.blank hs) q
@@ -88,17 +90,17 @@ module _ {E : Type 0} (e : ElementKind E) (same : (x : E) → e.same x x ≡ tru
       }
 
   -- only the seat is another
-  quiet : (q : Seat E) (g : ℕ) → SeatTrue e.blank s.cells h q
+  quiet : (q : TraySeat E) (g : ℕ) → SeatTrue e.blank s.cells h q
       → Consistent e.blank (record { cells = s.cells; heads = s.heads; seats = set s.seats i q; seatings = g; room = s.room; count = s.count })
   quiet q g own = reseated s.cells s.heads q g agreement.head_true agreement.seats_true own
 
   -- access 3, by whether it writes, and whether the try had settled
-  helped : (t : Try E) (u : E) → SeatOk s.room (all_unsettled s.room (take s.count s.seats)) s.seatings (CellRead t u)
-      → SeatTrue e.blank s.cells h (CellRead t u) → (w y : Bool) → helps e (cell t.head.index) t u ≡ w
+  helped : (t : Try E) (u : E) → SeatOk s.room (all_unsettled s.room (take s.count s.seats)) s.seatings (Running (CellRead t u))
+      → SeatTrue e.blank s.cells h (Running (CellRead t u)) → (w y : Bool) → helps e (cell t.head.index) t u ≡ w
       → Consistent e.blank (record {
         cells = cond w (set s.cells t.head.index (record { element = t.head.element; tick = t.head.tick })) s.cells;
         heads = s.heads;
-        seats = set s.seats i (cond y (Ended (limit_reply e t.command)) (CellWritten t));
+        seats = set s.seats i (cond y (Ended (limit_reply e t.command)) (Running (CellWritten t)));
         seatings = s.seatings;
         room = s.room;
         count = s.count;
@@ -125,17 +127,17 @@ module _ {E : Type 0} (e : ElementKind E) (same : (x : E) → e.same x x ≡ tru
       under f = omega (arith, ints)
 
       own : (cs : List (Cell E)) (y : Bool) → TryTrue (cell_at e.blank cs t.head.index) h t → WriteTrue (cell_at e.blank cs t.head.index) t
-          → SeatTrue e.blank cs h (cond y (Ended (limit_reply e t.command)) (CellWritten t))
+          → SeatTrue e.blank cs h (cond y (Ended (limit_reply e t.command)) (Running (CellWritten t)))
       own cs true a d = tt
       own cs false a d = (a, d)
   helped t u ok p false y w = quiet _ s.seatings (own y)
     where
-      own : (y : Bool) → SeatTrue e.blank s.cells h (cond y (Ended (limit_reply e t.command)) (CellWritten t))
+      own : (y : Bool) → SeatTrue e.blank s.cells h (cond y (Ended (limit_reply e t.command)) (Running (CellWritten t)))
       own true = tt
       own false = (p.0, helps_not e (cell t.head.index) h t u p.0 same p.1 w)
 
   -- access 5 moves the head
-  moved : (t : Try E) (x : Next E) → SeatTrue e.blank s.cells h (NeighbourRead t x) → agrees h t ≡ true
+  moved : (t : Try E) (x : Next E) → SeatTrue e.blank s.cells h (Running (NeighbourRead t x)) → agrees h t ≡ true
       → Consistent e.blank (record {
         cells = s.cells;
         heads = set s.heads 0 (moved_head e t x);
@@ -163,7 +165,7 @@ module _ {E : Type 0} (e : ElementKind E) (same : (x : E) → e.same x x ≡ tru
       no f g = omega (arith, ints)
 
   -- an access of worker i, whose seat is q
-  access_consistent : (q : Seat E) → SeatOk s.room (all_unsettled s.room (take s.count s.seats)) s.seatings q
+  access_consistent : (q : TraySeat E) → SeatOk s.room (all_unsettled s.room (take s.count s.seats)) s.seatings q
       → SeatTrue e.blank s.cells h q → Consistent e.blank (accessed e s i q).1
   access_consistent Empty ok p = agreement
   access_consistent (Loaded d) ok p =
@@ -172,53 +174,88 @@ module _ {E : Type 0} (e : ElementKind E) (same : (x : E) → e.same x x ≡ tru
         stands = λ _. refl;
         past = λ n. absurd (both_ways _ n (agrees_now h d));
       })
-  access_consistent (HeadRead t) ok p = quiet _ s.seatings (p, λ _. refl)
-  access_consistent (CellRead t u) ok p = helped t u ok p (helps e (cell t.head.index) t u) (settled_early s.room t) refl
-  access_consistent (CellWritten t) ok p = quiet _ s.seatings (p.0, p.1, λ _. record { tick = refl; element = refl })
-  access_consistent (NeighbourRead t x) ok p =
+  access_consistent (Running (HeadRead t)) ok p = quiet _ s.seatings (p, λ _. refl)
+  access_consistent (Running (CellRead t u)) ok p = helped t u ok p (helps e (cell t.head.index) t u) (settled_early s.room t) refl
+  access_consistent (Running (CellWritten t)) ok p = quiet _ s.seatings (p.0, p.1, λ _. record { tick = refl; element = refl })
+  access_consistent (Running (NeighbourRead t x)) ok p =
       by_test (Consistent e.blank) (unchanged e h t) _ _
       (λ f. moved t x p (and_parts (agrees h t) _ f).0) (λ _. quiet (Loaded t.command) s.seatings tt)
   access_consistent (Ended r) ok p = agreement
 
-  -- a seat is taken from, or loaded
-  taken_consistent : (r : Option (Reply E)) → Consistent e.blank (taken s i r).1
-  taken_consistent None = agreement
-  taken_consistent (Some r) = quiet Empty s.seatings tt
+-- with more seatings a tray is sound still
+pub more_seatings : {E : Type 0} (blank : E) (s : TrayState E) → Sound blank s → (g : ℕ) → s.seatings ≤ g → g ≤ most_seatings
+    → Sound blank (state_of s.cells s.heads s.seats g s.room s.count)
+more_seatings blank s o g more few =
+    let p = all_unsettled s.room (take s.count s.seats) in
+    let kept : p + s.seatings ≤ p + g = omega arith in
+    record {
+      bounded = record {
+        seats_long = o.bounded.seats_long;
+        room_small = o.bounded.room_small;
+        few = few;
+        held = λ m.
+            let h = o.bounded.held m in
+            record {
+              heads_long = h.heads_long;
+              cells_long = h.cells_long;
+              some_room = h.some_room;
+              top = h.top;
+              cells_ok = λ y l. tick_kept p s.seatings p g kept (h.cells_ok y l);
+              head_ok = tick_kept p s.seatings p g kept h.head_ok;
+              seats_ok = λ j l. seat_kept p s.seatings p g kept s.room _ (h.seats_ok j l);
+            };
+      };
+      few_workers = o.few_workers;
+      consistent = λ m. record { head_true = (o.consistent m).head_true; seats_true = (o.consistent m).seats_true };
+    }
 
-  admitted_consistent : (d : Command E) → Consistent e.blank (admitted s i d).1
-  admitted_consistent d =
-      by_test (Consistent e.blank) (tray_knows d.kind) _ _
-      (λ _. by_test (Consistent e.blank) (ltb s.seatings most_seatings) _ _ (λ _. quiet (Loaded d) (s.seatings + 1) tt) (λ _. agreement))
-      (λ _. agreement)
+-- an access leaves the number of workers
+workers_kept : {E : Type 0} (e : ElementKind E) (s : TrayState E) (i : ℕ) (q : TraySeat E) → (accessed e s i q).1.count ≡ s.count
+workers_kept e s i q = grind arith
 
--- a call that leaves the tray within its bounds, and the number of workers; of a worker that there is not, it leaves everything
-if_there : {E R : Type 0} (blank : E) (s : TrayState E) → Sound blank s → (i : ℕ) (y z : R × TrayState E) → z.1 ≡ s → y.1.count ≡ s.count
-    → (i < s.count → Consistent blank y.1) → Bounded blank (cond (ltb i s.count) y z).1 → Sound blank (cond (ltb i s.count) y z).1
-if_there blank s o i y z left size known bounded = go (ltb i s.count) refl bounded
-  where
-    go : (b : Bool) → ltb i s.count ≡ b → Bounded blank (cond b y z).1 → Sound blank (cond b y z).1
-    go true f w = record { bounded = w; few_workers = omega (arith, o.few_workers, size); consistent = λ _. known (ltb-true i s.count f) }
-    go false f w = subst (λ x. Sound blank x) (sym left) o
+module _ {E : Type 0} (e : ElementKind E) (same : (x : E) → e.same x x ≡ true) (s : TrayState E) (o : Sound e.blank s) (i : ℕ) where
+  pub step_sound : Sound e.blank (step_outcome e s i).1
+  step_sound =
+      by_test (Sound e.blank) (ltb i s.count) _ _
+      (λ f.
+      let l : i < s.count = ltb-true i s.count f in
+      let ok = (bounds e same s o i l).seats_ok i l in
+      record {
+        bounded = access_bounded e.blank s o.bounded i l e refl (seat_at s.seats i) refl ok;
+        few_workers = omega (arith, o.few_workers, workers_kept e s i (seat_at s.seats i));
+        consistent = λ _. access_consistent e same s o i l (seat_at s.seats i) ok ((agreement e same s o i l).seats_true i l);
+      })
+      (λ _. o)
+
+  -- a seat is loaded, which is one seating more
+  pub loaded_sound : i < s.count → (d : TrayCommand E) → s.seatings < most_seatings
+      → Sound e.blank (state_of s.cells s.heads (set s.seats i (Loaded d)) (s.seatings + 1) s.room s.count)
+  loaded_sound l d few =
+      record {
+        bounded = loaded_bounded e.blank s o.bounded i l d few;
+        few_workers = o.few_workers;
+        consistent = λ _. quiet e same s o i l (Loaded d) (s.seatings + 1) tt;
+      }
+
+  -- or emptied
+  pub emptied_sound : i < s.count → Sound e.blank (with_seat s i Empty)
+  emptied_sound l =
+      record {
+        bounded = emptied_bounded e.blank s o.bounded i l;
+        few_workers = o.few_workers;
+        consistent = λ _. quiet e same s o i l Empty s.seatings tt;
+      }
+
+  pub seat_sound : (d : Command E) → Sound e.blank (seat_outcome s i d).1
+  seat_sound d =
+      seat_left s.seats s.count s (loaded s i d) (Sound e.blank) o i s.seatings (tray_knows d.kind)
+      (λ l _ f. loaded_sound l (tray_command d) f)
+
+  pub take_sound : Sound e.blank (take_outcome e s i).1
+  take_sound =
+      take_left s.seats s.count s (with_seat s i Empty) (Sound e.blank) o i e.blank emptied_sound
 
 module _ {E : Type 0} (e : ElementKind E) (s : TrayState E) (o : Sound e.blank s) where
-  pub step_sound : ((x : E) → e.same x x ≡ true) → (i : ℕ) → Sound e.blank (step_outcome e s i).1
-  step_sound same i =
-      if_there e.blank s o i _ _ refl (grind arith)
-      (λ l. access_consistent e same s o i l (seat_at s.seats i) ((bounds e same s o i l).seats_ok i l) ((agreement e same s o i l).seats_true i l))
-      (step_bounded e.blank s o.bounded e refl i)
-
-  pub seat_sound : ((x : E) → e.same x x ≡ true) → (i : ℕ) (d : Command E) → Sound e.blank (seat_outcome s i d).1
-  seat_sound same i d =
-      if_there e.blank s o i _ _ refl (grind arith)
-      (λ l. by_test (Consistent e.blank) (is_empty (seat_at s.seats i)) _ _
-      (λ _. admitted_consistent e same s o i l d) (λ _. agreement e same s o i l))
-      (seat_bounded e.blank s o.bounded i d)
-
-  pub take_sound : ((x : E) → e.same x x ≡ true) → (i : ℕ) → Sound e.blank (take_outcome e s i).1
-  take_sound same i =
-      if_there e.blank s o i _ _ refl (grind arith) (λ l. taken_consistent e same s o i l (takeable e (seat_at s.seats i)))
-      (take_bounded e.blank s o.bounded e i)
-
   pub clear_sound : Sound e.blank (clear_outcome s)
   clear_sound =
       record {

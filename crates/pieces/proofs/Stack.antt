@@ -4,12 +4,11 @@ use Rattle.std.proofs.lemmas.List.{get_or-set_other, length_push, take_at, get_o
 use Rattle.std.proofs.lemmas.Bool.{eqb-false, cond-false}
 use Rattle.elements.specs.Codes.{reply, is_change}
 use Rattle.elements.specs.Kinds.{ElementKind}
-use Rattle.elements.specs.declared.commands.Command.{Command}
 use Rattle.elements.specs.declared.commands.Reply.{Reply}
 use Rattle.elements.specs.declared.commands.Code.TheVariants.{Done, Full, Popped, Empty}
 use Rattle.pieces.specs.declared.tray.records.Cell.{Cell}
 use Rattle.pieces.specs.declared.tray.records.Try.{Try}
-use Rattle.pieces.specs.TrayKinds.{is_push}
+use Rattle.pieces.specs.TrayKinds.{TrayCommand, pushes, command_of}
 use Rattle.pieces.specs.OrdinaryTray.{ordinary_push, ordinary_pop, ordinary_tray}
 use Rattle.pieces.specs.TrayStates.{cell_at, below, stack}
 use Rattle.pieces.specs.TrayAccess.{at_limit, neighbour, limit_reply, done_reply}
@@ -57,24 +56,24 @@ module _ {E : Type 0} (blank : E) (cs : List (Cell E)) where
 
 module _ {E : Type 0} (e : ElementKind E) (k : ℕ) where
   -- at its limit the ordinary tray only looks
-  pub limit_look : (xs : List E) (c : Command E) → cond (is_push c) (eqb (length xs) k) (eqb (length xs) 0) ≡ true
-      → ordinary_tray e.blank k xs c ≡ (xs, limit_reply e c)
-  limit_look xs c = go (is_push c)
+  pub limit_look : (xs : List E) (c : TrayCommand E) → cond (pushes c) (eqb (length xs) k) (eqb (length xs) 0) ≡ true
+      → ordinary_tray e.blank k xs (command_of c) ≡ (xs, limit_reply e c)
+  limit_look xs c = go (pushes c)
     where
       go : (b : Bool) → cond b (eqb (length xs) k) (eqb (length xs) 0) ≡ true
           → cond b (ordinary_push e.blank k xs c.element) (ordinary_pop e.blank k xs) ≡ (xs, cond b (reply Full e.blank) (reply Empty e.blank))
       go true f = ap (λ y. cond y (xs, reply Full e.blank) (xs ++ (c.element ∷ []), reply Done e.blank)) f
       go false f = ap (λ y. cond y (xs, reply Empty e.blank) (take (length xs - 1) xs, reply Popped (get_or xs (length xs - 1) e.blank))) f
 
-  pub limit_no_change : (c : Command E) → is_change (limit_reply e c).code ≡ false
-  limit_no_change c = go (is_push c)
+  pub limit_no_change : (c : TrayCommand E) → is_change (limit_reply e c).code ≡ false
+  limit_no_change c = go (pushes c)
     where
       go : (b : Bool) → is_change (cond b (reply Full e.blank) (reply Empty e.blank)).code ≡ false
       go true = refl
       go false = refl
 
   pub done_change : (t : Try E) → is_change (done_reply e t).code ≡ true
-  done_change t = go (is_push t.command)
+  done_change t = go (pushes t.command)
     where
       go : (b : Bool) → is_change (cond b (reply Done e.blank) (reply Popped t.head.element)).code ≡ true
       go true = refl
@@ -106,6 +105,6 @@ module _ {E : Type 0} (e : ElementKind E) (k : ℕ) where
         ∙ (λ j. (sym q.0 j, reply Popped (q.1 j)))
 
     pub moved_stack : at_limit k t.head t.command ≡ false → (cell_at e.blank cs t.head.index).element ≡ t.head.element
-        → u ≡ cond (is_push t.command) t.command.element (cell_at e.blank cs (neighbour t)).element
-        → ordinary_tray e.blank k xs t.command ≡ (stack e.blank cs (neighbour t) u, done_reply e t)
-    moved_stack = moved_by (is_push t.command)
+        → u ≡ cond (pushes t.command) t.command.element (cell_at e.blank cs (neighbour t)).element
+        → ordinary_tray e.blank k xs (command_of t.command) ≡ (stack e.blank cs (neighbour t) u, done_reply e t)
+    moved_stack = moved_by (pushes t.command)

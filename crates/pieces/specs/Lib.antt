@@ -4,6 +4,7 @@ pub mod Views
 pub mod Accesses
 pub mod Calls
 pub mod Outcomes
+pub mod Seats
 pub mod Meanings
 pub mod Ticks
 pub mod Alone
@@ -15,7 +16,6 @@ pub mod TrayAccess
 pub mod TrayCalls
 pub mod TrayShown
 pub mod TrayBounds
-pub mod TrayStrips
 pub mod TraySound
 pub mod Trays
 pub mod TrayMeaning

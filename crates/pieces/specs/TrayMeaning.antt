@@ -9,9 +9,9 @@ use Rattle.pieces.specs.Meanings.{PieceCalls, PieceMeaning}
 use Rattle.pieces.specs.declared.tray.Tray.{Tray}
 use Rattle.pieces.specs.declared.tray.records.Head.{Head}
 use Rattle.pieces.specs.declared.tray.records.Try.{Try}
-use Rattle.pieces.specs.declared.tray.records.Seat.{Seat}
-use Rattle.pieces.specs.declared.tray.records.Seat.TheVariants.{Empty, Loaded, HeadRead, CellRead, CellWritten, NeighbourRead, Ended}
-use Rattle.pieces.specs.TrayKinds.{tray_kinds}
+use Rattle.pieces.specs.declared.seats.Seat.TheVariants.{Empty, Loaded, Running, Ended}
+use Rattle.pieces.specs.declared.tray.records.Phase.TheVariants.{HeadRead, CellRead, CellWritten, NeighbourRead}
+use Rattle.pieces.specs.TrayKinds.{TraySeat, tray_kinds, command_of}
 use Rattle.pieces.specs.OrdinaryTray.{ordinary_tray}
 use Rattle.pieces.specs.TrayStates.{TrayState, head_of, tray_content}
 use Rattle.pieces.specs.TrayAccess.{settled_early, agrees, limit_reply}
@@ -34,13 +34,13 @@ module _ {E : Type 0} (e : ElementKind E) where
         settled = cond (settled_early k t) (Some (limit_reply e t.command)) None;
       }
 
-  abbrev pub seat_view : ℕ → Head E → Seat E → SeatView E
+  abbrev pub seat_view : ℕ → Head E → TraySeat E → SeatView E
   seat_view k h Empty = empty
-  seat_view k h (Loaded c) = loaded c
-  seat_view k h (HeadRead t) = running t.command (try_view k h t 1)
-  seat_view k h (CellRead t u) = running t.command (try_view k h t 2)
-  seat_view k h (CellWritten t) = running t.command (try_view k h t 3)
-  seat_view k h (NeighbourRead t x) = running t.command (try_view k h t 4)
+  seat_view k h (Loaded c) = loaded (command_of c)
+  seat_view k h (Running (HeadRead t)) = running (command_of t.command) (try_view k h t 1)
+  seat_view k h (Running (CellRead t u)) = running (command_of t.command) (try_view k h t 2)
+  seat_view k h (Running (CellWritten t)) = running (command_of t.command) (try_view k h t 3)
+  seat_view k h (Running (NeighbourRead t x)) = running (command_of t.command) (try_view k h t 4)
   seat_view k h (Ended r) = ended r
 
   abbrev pub tray_view : TrayState E → PieceView E (List E)

@@ -2,8 +2,9 @@
 use Rattle.std.specs.Prelude.{ℕ, cond, ◌&&◌, Some, None, Option, nat_le, nat_lt}
 use Rattle.pieces.specs.declared.tray.records.Cell.{Cell}
 use Rattle.pieces.specs.declared.tray.records.Head.{Head}
-use Rattle.pieces.specs.declared.tray.records.Seat.{Seat}
-use Rattle.pieces.specs.TrayStates.{TrayState, cell_at, head_of, seat_at}
+use Rattle.pieces.specs.TrayKinds.{TraySeat}
+use Rattle.pieces.specs.Seats.{seat_at}
+use Rattle.pieces.specs.TrayStates.{TrayState, cell_at, head_of}
 
 module _ {E : Type 0} where
   abbrev pub shown_head : E → TrayState E → Option (Head E)
@@ -13,5 +14,5 @@ module _ {E : Type 0} where
   abbrev pub shown_cell : E → TrayState E → ℕ → Option (Cell E)
   shown_cell blank s x = cond (nat_lt 0 s.count && nat_le x s.room) (Some (cell_at blank s.cells x)) None
 
-  abbrev pub shown_seat : TrayState E → ℕ → Option (Seat E)
+  abbrev pub shown_seat : TrayState E → ℕ → Option (TraySeat E)
   shown_seat s i = cond (nat_lt i s.count) (Some (seat_at s.seats i)) None

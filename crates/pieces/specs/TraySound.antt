@@ -4,14 +4,13 @@ use Rattle.pieces.specs.declared.tray.records.Cell.{Cell}
 use Rattle.pieces.specs.declared.tray.records.Head.{Head}
 use Rattle.pieces.specs.declared.tray.records.Try.{Try}
 use Rattle.pieces.specs.declared.tray.records.Next.{Next}
-use Rattle.pieces.specs.declared.tray.records.Seat.{Seat}
-use Rattle.pieces.specs.declared.tray.records.Seat.TheVariants.{Empty, Loaded, HeadRead, CellRead, CellWritten, NeighbourRead, Ended}
-use Rattle.pieces.specs.declared.tray.strips.Strips.{Strips}
-use Rattle.pieces.specs.TrayKinds.{is_push}
-use Rattle.pieces.specs.TrayStates.{TrayState, cell_at, head_of, seat_at}
+use Rattle.pieces.specs.declared.seats.Seat.TheVariants.{Empty, Loaded, Running, Ended}
+use Rattle.pieces.specs.declared.tray.records.Phase.TheVariants.{HeadRead, CellRead, CellWritten, NeighbourRead}
+use Rattle.pieces.specs.TrayKinds.{TraySeat, pushes}
+use Rattle.pieces.specs.Seats.{seat_at}
+use Rattle.pieces.specs.TrayStates.{TrayState, cell_at, head_of}
 use Rattle.pieces.specs.TrayAccess.{agrees, neighbour}
 use Rattle.pieces.specs.TrayBounds.{Bounded}
-use Rattle.pieces.specs.TrayStrips.{state_of}
 
 module _ {E : Type 0} where
   -- the head and its cell c: the cell is one tick behind, or holds the head's element
@@ -39,18 +38,18 @@ module _ {E : Type 0} where
   -- what access 4 read is what the neighbour's cell c holds
   pub record NextTrue (c : Cell E) (t : Try E) (x : Next E) : Type 0 where
     pub tick : x.tick ≡ c.tick
-    pub element : x.element ≡ cond (is_push t.command) t.command.element c.element
+    pub element : x.element ≡ cond (pushes t.command) t.command.element c.element
 
   -- a seat by its phase; what access 4 read stands while the head stands. `blank` is for what is past the cells' end
-  abbrev pub SeatTrue : E → List (Cell E) → Head E → Seat E → Type 0
+  abbrev pub SeatTrue : E → List (Cell E) → Head E → TraySeat E → Type 0
   SeatTrue blank cs h Empty = Unit {0}
   SeatTrue blank cs h (Loaded c) = Unit {0}
-  SeatTrue blank cs h (HeadRead t) = TryTrue (cell_at blank cs t.head.index) h t
-  SeatTrue blank cs h (CellRead t u) =
+  SeatTrue blank cs h (Running (HeadRead t)) = TryTrue (cell_at blank cs t.head.index) h t
+  SeatTrue blank cs h (Running (CellRead t u)) =
       TryTrue (cell_at blank cs t.head.index) h t × ReadTrue (cell_at blank cs t.head.index) t u
-  SeatTrue blank cs h (CellWritten t) =
+  SeatTrue blank cs h (Running (CellWritten t)) =
       TryTrue (cell_at blank cs t.head.index) h t × WriteTrue (cell_at blank cs t.head.index) t
-  SeatTrue blank cs h (NeighbourRead t x) =
+  SeatTrue blank cs h (Running (NeighbourRead t x)) =
       TryTrue (cell_at blank cs t.head.index) h t
       × WriteTrue (cell_at blank cs t.head.index) t
       × (agrees h t ≡ true → NextTrue (cell_at blank cs (neighbour t)) t x)
@@ -66,7 +65,3 @@ module _ {E : Type 0} (blank : E) (s : TrayState E) where
     pub bounded : Bounded blank s
     pub few_workers : s.count ≤ 16
     pub consistent : 0 < s.count → Consistent
-
--- a tray in lent strips is sound, whatever is taken to stand past their ends
-abbrev pub AlwaysSound : {E : Type 0} → Strips E → Type 0
-AlwaysSound {E} r = (blank : E) → Sound blank (state_of r)

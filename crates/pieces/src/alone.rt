@@ -7,7 +7,7 @@ ghost use Rattle.pieces.specs.Meanings.{names_of, view_of};
 
 use crate::piece::Piece;
 use elements::answers::StepAnswer;
-use elements::commands::Reply;
+use elements::commands::{Command, Reply};
 use elements::element::Element;
 use elements::refusals::Refusal;
 
@@ -15,14 +15,13 @@ use elements::refusals::Refusal;
 fn seat_meant<P: Piece>(
     piece: &mut P,
     worker: usize,
-    kind: u8,
-    element: P::Element,
+    command: Command<P::Element>,
 ) -> Result<(), Refusal>
     ensures names { names_of P.Piece.meaning piece.new ≡ names_of P.Piece.meaning piece.old }
-    ensures meant { Exactly result (view_of P.Piece.meaning piece.new) (seated (names_of P.Piece.meaning piece.old) (view_of P.Piece.meaning piece.old) worker (record { kind = kind; element = element })) }
+    ensures meant { Exactly result (view_of P.Piece.meaning piece.new) (seated (names_of P.Piece.meaning piece.old) (view_of P.Piece.meaning piece.old) worker command) }
 {
     piece.keeps_meaning();
-    piece.seat(worker, kind, element)
+    piece.seat(worker, command)
 }
 
 // A Step, by its meaning.
@@ -68,12 +67,11 @@ fn finish<P: Piece>(piece: &mut P, worker: usize)
 pub fn call_alone<P: Piece>(
     piece: &mut P,
     worker: usize,
-    kind: u8,
-    element: P::Element,
+    command: Command<P::Element>,
 ) -> Result<Reply<P::Element>, Refusal>
-    ensures { Exactly result (view_of P.Piece.meaning piece.new) (called_alone (names_of P.Piece.meaning piece.old) (view_of P.Piece.meaning piece.old) worker (record { kind = kind; element = element })) }
+    ensures { Exactly result (view_of P.Piece.meaning piece.new) (called_alone (names_of P.Piece.meaning piece.old) (view_of P.Piece.meaning piece.old) worker command) }
 {
-    seat_meant(piece, worker, kind, element)?;
+    seat_meant(piece, worker, command)?;
     finish(piece, worker);
     take_meant(piece, worker)
 }

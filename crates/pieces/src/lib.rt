@@ -5,4 +5,5 @@ pub mod alone;
 pub mod ordinary;
 pub mod piece;
 pub mod refusals;
+pub mod seats;
 pub mod tray;

@@ -5,7 +5,7 @@ ghost use Rattle.pieces.specs.Views.{workers_of};
 ghost use Rattle.pieces.specs.Meanings.{PieceMeaning, MeaningKept, names_of, view_of};
 
 use elements::answers::StepAnswer;
-use elements::commands::Reply;
+use elements::commands::{Command, Reply};
 use elements::element::Element;
 use elements::refusals::Refusal;
 
@@ -40,8 +40,8 @@ pub trait Piece {
         ensures { result ≡ workers_of (view_of meaning self.now) };
 
     // Loads the worker's empty seat with a command.
-    fn seat(&mut self, worker: usize, kind: u8, element: Self::Element) -> Result<(), Refusal>
-        ensures { Exactly result (meaning.model self.new) (meaning.calls.seat (meaning.model self.old) worker (record { kind = kind; element = element })) };
+    fn seat(&mut self, worker: usize, command: Command<Self::Element>) -> Result<(), Refusal>
+        ensures { Exactly result (meaning.model self.new) (meaning.calls.seat (meaning.model self.old) worker command) };
 
     // Makes one access for the worker's command; the first of them begins a try.
     fn step(&mut self, worker: usize) -> Result<StepAnswer, Refusal>

@@ -1,23 +1,28 @@
 // The tray: a bounded abortable stack, which up to sixteen workers use at once, one access at a time.
-ghost use Rattle.pieces.specs.TraySound.{AlwaysSound};
-ghost use Rattle.pieces.specs.TrayStrips.{Always};
+ghost use Rattle.pieces.specs.TraySound.{Sound};
+ghost use Rattle.pieces.specs.TrayStates.{state_of};
 
-use crate::tray::strips::Strips;
+use crate::tray::records::{Cell, Head, TraySeat};
 use elements::element::Element;
 
+mod access;
 mod accesses;
 pub mod calls;
-mod kinds;
+pub mod kinds;
+mod making;
 pub mod piece;
 pub mod records;
-mod strips;
 
-// A tray in three strips that its caller lends: the cells, the head, and one seat for each worker. Every tray is
-// within its bounds: no index leaves the strips, and no tick passes the number of seatings. And it is sound: it has at
-// most sixteen workers, and what the seats remember agrees with the cells and the head.
+// A tray in three strips that its caller lends: the cells, the head, and one seat for each worker; with `room` places
+// and `count` workers, at most sixteen. Every tray is sound: no index leaves the strips, no tick passes the number of
+// seatings, and what the seats remember agrees with the cells and the head.
 #[derive(Drop)]
 pub struct Tray<'a, E: Element> {
-    strips: Strips<'a, E>,
-    ghost bounded: { ∥ Always strips ∥₁ },
-    ghost sound: { ∥ AlwaysSound strips ∥₁ },
+    cells: &'a mut [Cell<E>],
+    heads: &'a mut [Head<E>],
+    seats: &'a mut [TraySeat<E>],
+    seatings: u32,
+    room: usize,
+    count: usize,
+    ghost sound: { ∥ Sound E.Element.kind.blank (state_of cells.now heads.now seats.now seatings room count) ∥₁ },
 }

@@ -12,18 +12,32 @@ use Rattle.elements.specs.declared.commands.Code.TheVariants.{Done, Popped}
 use Rattle.elements.specs.declared.refusals.Refusal.{Refusal}
 use Rattle.pieces.specs.declared.tray.records.Cell.{Cell}
 use Rattle.pieces.specs.declared.tray.records.Head.{Head}
-use Rattle.pieces.specs.declared.tray.records.Seat.{Seat}
-use Rattle.pieces.specs.declared.tray.records.Seat.TheVariants.{Empty, Loaded, CellRead}
+use Rattle.pieces.specs.TrayKinds.{TraySeat, tray_command, push, pop}
+use Rattle.pieces.specs.declared.seats.Seat.TheVariants.{Empty, Loaded, Running}
+use Rattle.pieces.specs.declared.tray.records.Phase.TheVariants.{CellRead}
 use Rattle.pieces.specs.TrayStates.{TrayState}
 use Rattle.runs.specs.declared.events.Call.{Call}
 use Rattle.runs.specs.declared.events.Call.TheVariants.{Seat as SeatCall}
 use Rattle.runs.specs.declared.events.Event.{Event}
 use Rattle.runs.specs.declared.events.Event.TheVariants.{Stepped, Taken}
+use Rattle.runs.specs.declared.held_feeder.Batches.{Batches}
 use Rattle.runs.specs.Events.{events_of, state_after, Played}
-use Rattle.runs.specs.HeldFeeder.{push, pop, whole, held, resumed, held_feeder, came_off, laid_since, laid_on, fresh, late_access, EachOnce}
+use Rattle.runs.specs.HeldFeeder.{whole, held, resumed, held_feeder, came_off, laid_since, laid_on, fresh, late_step, EachOnce}
 use Rattle.runs.proofs.Solo.{ended_try, solo}
 
-module _ {E : Type 0} (e : ElementKind E) (law : (x : E) → e.same x x ≡ true) (a b c d : E) where
+module _ {E : Type 0} (e : ElementKind E) (law : (x : E) → e.same x x ≡ true) (batches : Batches E) where
+  abbrev a : E
+  a = batches.first
+
+  abbrev b : E
+  b = batches.second
+
+  abbrev c : E
+  c = batches.third
+
+  abbrev d : E
+  d = batches.late
+
   abbrev cell : E → ℕ → Cell E
   cell x n = record { element = x; tick = pos n }
 
@@ -31,13 +45,13 @@ module _ {E : Type 0} (e : ElementKind E) (law : (x : E) → e.same x x ≡ true
   head i x n = record { index = i; element = x; tick = pos n }
 
   -- the tray with its first four cells, its head, feeder 0's seat and the seatings; the other feeders are idle
-  abbrev tray : Cell E → Cell E → Cell E → Cell E → Head E → Seat E → ℕ → TrayState E
+  abbrev tray : Cell E → Cell E → Cell E → Cell E → Head E → TraySeat E → ℕ → TrayState E
   tray c₀ c₁ c₂ c₃ h q g =
       record { cells = c₀ ∷ c₁ ∷ c₂ ∷ c₃ ∷ cell e.blank 0 ∷ []; heads = h ∷ []; seats = q ∷ Empty ∷ Empty ∷ []; seatings = g; room = 4; count = 3 }
 
   -- feeder 0 is held after its second access, when it has seen a on top and the blank in its cell
-  abbrev waiting : Seat E
-  waiting = CellRead (record { command = push d; head = head 1 a 1 }) e.blank
+  abbrev waiting : TraySeat E
+  waiting = Running (CellRead (record { command = tray_command (push d); head = head 1 a 1 }) e.blank)
 
   -- the states between the commands
   abbrev o : E
@@ -60,7 +74,7 @@ module _ {E : Type 0} (e : ElementKind E) (law : (x : E) → e.same x x ≡ true
 
   -- feeder 0 has gone on, and is stood off
   abbrev s₆ : TrayState E
-  s₆ = tray (cell o 1) (cell b 2) (cell o 0) (cell o 0) (head 2 c 1) (Loaded (push d)) 5
+  s₆ = tray (cell o 1) (cell b 2) (cell o 0) (cell o 0) (head 2 c 1) (Loaded (tray_command (push d))) 5
 
   abbrev s₇ : TrayState E
   s₇ = tray (cell o 1) (cell b 2) (cell c 1) (cell o 0) (head 3 d 1) Empty 5
@@ -82,28 +96,28 @@ module _ {E : Type 0} (e : ElementKind E) (law : (x : E) → e.same x x ≡ true
   more s = record { cells = s.cells; heads = s.heads; seats = s.seats; seatings = s.seatings + 1; room = s.room; count = s.count }
 
   lays_a : ended_try e 1 (seated 1 (push a) (fresh e)) ≡ (Ok (reply Done o), s₁)
-  lays_a = solo e (more (fresh e)) 1 (lit< tt) (lit≤ tt) law (push a) refl
+  lays_a = solo e (more (fresh e)) 1 (lit< tt) (lit≤ tt) law (tray_command (push a)) refl
 
   takes_a : ended_try e 1 (seated 1 (pop o) s₂) ≡ (Ok (reply Popped a), s₃)
-  takes_a = solo e (more s₂) 1 (lit< tt) (lit≤ tt) law (pop o) refl
+  takes_a = solo e (more s₂) 1 (lit< tt) (lit≤ tt) law (tray_command (pop o)) refl
 
   lays_b : ended_try e 1 (seated 1 (push b) s₃) ≡ (Ok (reply Done o), s₄)
-  lays_b = solo e (more s₃) 1 (lit< tt) (lit≤ tt) law (push b) refl
+  lays_b = solo e (more s₃) 1 (lit< tt) (lit≤ tt) law (tray_command (push b)) refl
 
   lays_c : ended_try e 2 (seated 2 (push c) s₄) ≡ (Ok (reply Done o), s₅)
-  lays_c = solo e (more s₄) 2 (lit< tt) (lit≤ tt) law (push c) refl
+  lays_c = solo e (more s₄) 2 (lit< tt) (lit≤ tt) law (tray_command (push c)) refl
 
   lays_d : ended_try e 0 s₆ ≡ (Ok (reply Done o), s₇)
-  lays_d = solo e s₆ 0 (lit< tt) (lit≤ tt) law (push d) refl
+  lays_d = solo e s₆ 0 (lit< tt) (lit≤ tt) law (tray_command (push d)) refl
 
   takes_d : ended_try e 2 (seated 2 (pop o) s₇) ≡ (Ok (reply Popped d), s₈)
-  takes_d = solo e (more s₇) 2 (lit< tt) (lit≤ tt) law (pop o) refl
+  takes_d = solo e (more s₇) 2 (lit< tt) (lit≤ tt) law (tray_command (pop o)) refl
 
   takes_c : ended_try e 2 (seated 2 (pop o) s₈) ≡ (Ok (reply Popped c), s₉)
-  takes_c = solo e (more s₈) 2 (lit< tt) (lit≤ tt) law (pop o) refl
+  takes_c = solo e (more s₈) 2 (lit< tt) (lit≤ tt) law (tray_command (pop o)) refl
 
   takes_b : ended_try e 2 (seated 2 (pop o) s₉) ≡ (Ok (reply Popped b), s₁₀)
-  takes_b = solo e (more s₉) 2 (lit< tt) (lit≤ tt) law (pop o) refl
+  takes_b = solo e (more s₉) 2 (lit< tt) (lit≤ tt) law (tray_command (pop o)) refl
 
   abbrev pops : List (Call E)
   pops = whole 2 (pop o) ++ whole 2 (pop o) ++ whole 2 (pop o)
@@ -143,7 +157,7 @@ module _ {E : Type 0} (e : ElementKind E) (law : (x : E) → e.same x x ≡ true
   abbrev f₁₀ : ℕ → E
   f₁₀ = with_x 2 o f₉
 
-  told_all : told (λ _. o) (events_of e (fresh e) (held_feeder o a b c d)) ≡ (a ∷ d ∷ c ∷ b ∷ [], a ∷ b ∷ c ∷ d ∷ [])
+  told_all : told (λ _. o) (events_of e (fresh e) (held_feeder o batches)) ≡ (a ∷ d ∷ c ∷ b ∷ [], a ∷ b ∷ c ∷ d ∷ [])
   told_all =
       ap (λ (y : EndedTry). told f₁ (Taken 1 y.0 ∷ events_of e y.1 (held 0 (push d) ++ whole 1 (pop o) ++ whole 1 (push b) ++ whole 2 (push c) ++ late))) lays_a
       ∙ ap (λ (p : List E × List E). (p.0, a ∷ p.1))
@@ -162,14 +176,14 @@ module _ {E : Type 0} (e : ElementKind E) (law : (x : E) → e.same x x ≡ true
       (ap (λ (y : EndedTry). told f₁₀ (Taken 2 y.0 ∷ [])) takes_b)))))))
 
   -- the late write
-  late_all : take 1 (drop 31 (events_of e (fresh e) (held_feeder o a b c d))) ≡ Stepped (late_access b c) ∷ []
+  late_all : take 1 (drop 31 (events_of e (fresh e) (held_feeder o batches))) ≡ Stepped (late_step batches) ∷ []
   late_all =
       ap (λ (y : EndedTry). take 1 (drop 24 (events_of e y.1 (held 0 (push d) ++ whole 1 (pop o) ++ whole 1 (push b) ++ whole 2 (push c) ++ late)))) lays_a
       ∙ ap (λ (y : EndedTry). take 1 (drop 14 (events_of e y.1 (whole 1 (push b) ++ whole 2 (push c) ++ late)))) takes_a
       ∙ ap (λ (y : EndedTry). take 1 (drop 7 (events_of e y.1 (whole 2 (push c) ++ late)))) lays_b
       ∙ ap (λ (y : EndedTry). take 1 (events_of e y.1 late)) lays_c
 
-  pub each_once : (vs : List (Event E)) → vs ≡ events_of e (fresh e) (held_feeder o a b c d) → EachOnce e a b c d vs
+  pub each_once : (vs : List (Event E)) → vs ≡ events_of e (fresh e) (held_feeder o batches) → EachOnce e batches vs
   each_once vs exact =
       let both : told (λ _. o) vs ≡ (a ∷ d ∷ c ∷ b ∷ [], a ∷ b ∷ c ∷ d ∷ []) = ap (told (λ _. o)) exact ∙ told_all in
       let off : came_off vs ≡ a ∷ d ∷ c ∷ b ∷ [] = ap (λ (p : List E × List E). p.0) both in
@@ -185,6 +199,6 @@ module _ {E : Type 0} (e : ElementKind E) (law : (x : E) → e.same x x ≡ true
 
   -- a run of these calls on a new tray, if there was memory for it
   pub played_once : (s s' : TrayState E) (cs : List (Call E)) (r : Result (Vec (Event E) Global) AllocError)
-      → s ≡ fresh e → cs ≡ held_feeder o a b c d → Played e s cs r s' → IfOk r (λ v. EachOnce e a b c d (vec_items v))
+      → s ≡ fresh e → cs ≡ held_feeder o batches → Played e s cs r s' → IfOk r (λ v. EachOnce e batches (vec_items v))
   played_once s s' cs (Ok v) f g p = each_once (vec_items v) (p.0 ∙ ap (λ z. events_of e z cs) f ∙ ap (events_of e (fresh e)) g)
   played_once s s' cs (Err x) f g p = tt

@@ -1,10 +1,13 @@
 -- Nothing comes back in a run of a tray: call by call, what was left behind stays behind.
-use Rattle.std.proofs.Common.{◌≡◌, ℕ, ◌<◌, ◌≤◌, true, false, eqb, ltb, List, [], ◌∷◌, ◌++◌, ℤ, sym, refl, ap, ◌∙◌, subst, inl, inr, arith}
-use Rattle.std.proofs.lemmas.Bool.{cases_Bool, cases_lt, both_ways, eq-eqb, eqb-true, and_from, and_parts, ltb-true}
+use Rattle.std.proofs.Common.{◌≡◌, ℕ, ◌<◌, ◌≤◌, true, false, eqb, List, [], ◌∷◌, ℤ, sym, refl, ap, ◌∙◌, subst, inl, inr, arith}
+use Rattle.std.proofs.lemmas.Bool.{cases_Bool, cases_lt, both_ways, eq-eqb, eqb-true, and_from, and_parts}
+use Rattle.std.proofs.lemmas.Bool.Decides.{nat_tests}
+use Rattle.std.proofs.lemmas.List.Folds.{fold_stays}
+use Rattle.std.proofs.lemmas.List.Sums.{fold-append}
 use Rattle.elements.specs.Kinds.{ElementKind}
 use Rattle.pieces.specs.Ticks.{tick_eq}
-use Rattle.pieces.proofs.CallLaws.{by_test}
 use Rattle.pieces.proofs.TickLaws.{tick_eq_same, tick_eq_true}
+use Rattle.pieces.specs.declared.tray.records.TrayKind.TheVariants.{Push}
 use Rattle.pieces.specs.declared.tray.records.Try.{Try}
 use Rattle.pieces.specs.TrayStates.{TrayState, head_of}
 use Rattle.pieces.specs.TrayAccess.{agrees}
@@ -18,9 +21,9 @@ use Rattle.runs.specs.NoReturn.{head_pair, NoReturn}
 
 module _ {E : Type 0} (e : ElementKind E) (same : (x : E) → e.same x x ≡ true) where
   call_sound : (s : TrayState E) → Sound e.blank s → (c : Call E) → Sound e.blank (performed e s c).1
-  call_sound s o (Seat i c) = seat_sound e s o same i c
-  call_sound s o (Step i) = step_sound e s o same i
-  call_sound s o (Take i) = take_sound e s o same i
+  call_sound s o (Seat i c) = seat_sound e same s o i c
+  call_sound s o (Step i) = step_sound e same s o i
+  call_sound s o (Take i) = take_sound e same s o i
 
   call_later : (s : TrayState E) → Sound e.blank s → (c : Call E) → Later e s (performed e s c).1
   call_later s o (Seat i c) = later_quiet e s _ (grind arith) (grind arith)
@@ -35,24 +38,16 @@ module _ {E : Type 0} (e : ElementKind E) (same : (x : E) → e.same x x ≡ tru
   run_later s o [] = later_quiet e s s refl refl
   run_later s o (c ∷ cs) = later_still e s _ _ (call_later s o c) (run_later (performed e s c).1 (call_sound s o c) cs)
 
-  run_on : (s : TrayState E) (cs ds : List (Call E)) → state_after e s (cs ++ ds) ≡ state_after e (state_after e s cs) ds
-  run_on s [] ds = refl
-  run_on s (c ∷ cs) ds = run_on (performed e s c).1 cs ds
-
   -- a tray without workers stays as it is
   nobody : (s : TrayState E) → s.count ≤ 0 → (c : Call E) → (performed e s c).1 ≡ s
-  nobody s n (Seat i c) = by_test (λ z. z ≡ s) (ltb i s.count) _ _ (λ f. absurd (omega (arith, ltb-true i s.count f))) (λ _. refl)
-  nobody s n (Step i) = by_test (λ z. z ≡ s) (ltb i s.count) _ _ (λ f. absurd (omega (arith, ltb-true i s.count f))) (λ _. refl)
-  nobody s n (Take i) = by_test (λ z. z ≡ s) (ltb i s.count) _ _ (λ f. absurd (omega (arith, ltb-true i s.count f))) (λ _. refl)
-
-  stays : (s : TrayState E) → s.count ≤ 0 → (cs : List (Call E)) → state_after e s cs ≡ s
-  stays s n [] = refl
-  stays s n (c ∷ cs) = ap (λ z. state_after e z cs) (nobody s n c) ∙ stays s n cs
+  nobody s n (Seat i c) = grind (arith, nat_tests)
+  nobody s n (Step i) = grind (arith, nat_tests)
+  nobody s n (Take i) = grind (arith, nat_tests)
 
   module _ (s : TrayState E) (o : Sound e.blank s) where
     -- the head of s, as a try remembers it
     abbrev now : Try E
-    now = record { command = record { kind = 0; element = e.blank }; head = head_of e.blank s.heads }
+    now = record { command = record { kind = Push; element = e.blank }; head = head_of e.blank s.heads }
 
     same_pair : (z : TrayState E) → agrees (head_of e.blank z.heads) now ≡ true → head_pair e z ≡ head_pair e s
     same_pair z a =
@@ -77,8 +72,8 @@ module _ {E : Type 0} (e : ElementKind E) (same : (x : E) → e.same x x ≡ tru
     no_return =
         record {
           head = λ cs ds left back. elim (cases_lt 0 s.count) [
-            | inl some ↦ gone_for_good some cs ds left (ap (head_pair e) (sym (run_on s cs ds)) ∙ back)
-            | inr none ↦ left (ap (head_pair e) (stays s none cs))
+            | inl some ↦ gone_for_good some cs ds left (ap (head_pair e) (sym (fold-append (λ z c. (performed e z c).1) s cs ds)) ∙ back)
+            | inr none ↦ left (ap (head_pair e) (fold_stays (λ z c. (performed e z c).1) s (nobody s none) cs))
           ];
           cells = λ cs x. (run_later s o cs).grown x;
         }

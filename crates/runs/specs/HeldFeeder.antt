@@ -1,32 +1,26 @@
 -- The run of the held feeder, and what is laid on and comes off in a run.
 use Rattle.std.specs.Prelude.{◌≡◌, ℕ, cond, List, [], ◌∷◌, ◌++◌, length, take, drop, replicate, pos, Some, None, Ok, Err, Option, ◌==◌}
-use Rattle.std.specs.Option.{option_to_list}
+use Rattle.std.specs.List.{filter_map}
 use Rattle.std.specs.List.Sorted.{IsPermutation}
 use Rattle.elements.specs.declared.answers.StepAnswer.TheVariants.{Moved}
 use Rattle.elements.specs.Codes.{code_number}
 use Rattle.elements.specs.Kinds.{ElementKind}
 use Rattle.elements.specs.declared.commands.Command.{Command}
 use Rattle.elements.specs.declared.commands.Code.TheVariants.{Done, Popped}
-use Rattle.pieces.specs.TrayKinds.{tray_kind_number}
-use Rattle.pieces.specs.declared.tray.records.TrayKind.TheVariants.{Push, Pop}
-use Rattle.pieces.specs.declared.tray.records.Seat.TheVariants.{Empty}
+use Rattle.pieces.specs.TrayKinds.{push, pop}
+use Rattle.pieces.specs.declared.seats.Seat.TheVariants.{Empty}
 use Rattle.pieces.specs.TrayStates.{TrayState}
 use Rattle.pieces.specs.TrayCalls.{made_tray}
 use Rattle.runs.specs.declared.events.Call.{Call}
 use Rattle.runs.specs.declared.events.Call.TheVariants.{Seat, Step, Take}
 use Rattle.runs.specs.declared.events.Access.{Access}
+use Rattle.runs.specs.declared.events.Step.{Step as StepEvent}
 use Rattle.runs.specs.declared.events.Event.{Event}
 use Rattle.runs.specs.declared.events.Event.TheVariants.{Seated, Stepped, Taken}
+use Rattle.runs.specs.declared.held_feeder.Batches.{Batches}
 use Rattle.runs.specs.Events.{events_of}
 
 module _ {E : Type 0} where
-  -- a push of x, and a pop
-  abbrev pub push : E → Command E
-  push x = record { kind = tray_kind_number Push; element = x }
-
-  abbrev pub pop : E → Command E
-  pop blank = record { kind = tray_kind_number Pop; element = blank }
-
   -- the five accesses of a try, and the reply
   abbrev pub tried : ℕ → List (Call E)
   tried i = Step i ∷ Step i ∷ Step i ∷ Step i ∷ Step i ∷ Take i ∷ []
@@ -43,14 +37,14 @@ module _ {E : Type 0} where
   abbrev pub resumed : ℕ → List (Call E)
   resumed i = Step i ∷ Step i ∷ Step i ∷ tried i
 
-  -- feeder 0 is held as it pushes d, while feeder 1 takes a off and lays b on, and feeder 2 lays c on; at the end
-  -- everything is taken off
-  abbrev pub before_late : E → E → E → E → E → List (Call E)
-  before_late blank a b c d = whole 1 (push a) ++ held 0 (push d) ++ whole 1 (pop blank) ++ whole 1 (push b) ++ whole 2 (push c)
+  -- feeder 0 is held as it pushes `late`, while feeder 1 takes `first` off and lays `second` on, and feeder 2 lays
+  -- `third` on; at the end everything is taken off
+  abbrev pub before_late : E → Batches E → List (Call E)
+  before_late blank b =
+      whole 1 (push b.first) ++ held 0 (push b.late) ++ whole 1 (pop blank) ++ whole 1 (push b.second) ++ whole 2 (push b.third)
 
-  abbrev pub held_feeder : E → E → E → E → E → List (Call E)
-  held_feeder blank a b c d =
-      before_late blank a b c d ++ resumed 0 ++ whole 2 (pop blank) ++ whole 2 (pop blank) ++ whole 2 (pop blank)
+  abbrev pub held_feeder : E → Batches E → List (Call E)
+  held_feeder blank b = before_late blank b ++ resumed 0 ++ whole 2 (pop blank) ++ whole 2 (pop blank) ++ whole 2 (pop blank)
 
   -- what an event takes off: the element of a reply that says popped
   abbrev pub popped : Event E → Option E
@@ -61,8 +55,7 @@ module _ {E : Type 0} where
 
   -- what comes off in a run
   abbrev pub came_off : List (Event E) → List E
-  came_off [] = []
-  came_off (v ∷ vs) = option_to_list (popped v) ++ came_off vs
+  came_off = filter_map popped
 
   -- what is laid on: at each reply that says done, the element of that worker's latest command; f has those so far
   abbrev pub laid_since : (ℕ → E) → List (Event E) → List E
@@ -82,24 +75,32 @@ fresh e =
     made_tray e (replicate 5 (record { element = e.blank; tick = pos 0 })) (replicate 1 (record { index = 0; element = e.blank; tick = pos 0 }))
     (replicate 3 Empty)
 
--- the late write, as the run has it: access 3 of feeder 0, which saw a on top at cell 1 and finds the newer b there
-abbrev pub late_access : {E : Type 0} → E → E → Access E
-late_access b c =
+-- the late write, as the run has it: access 3 of feeder 0, which saw `first` on top at cell 1 and finds the newer
+-- `second` there
+abbrev pub late_access : {E : Type 0} → Batches E → Access E
+late_access b =
+    record {
+      number = 3;
+      answer = Moved;
+      touched = Some (record { index = 1; cell = record { element = b.second; tick = pos 2 } });
+    }
+
+-- the Step that makes it, with `third` in the head
+abbrev pub late_step : {E : Type 0} → Batches E → StepEvent E
+late_step b =
     record {
       worker = 0;
-      number = 3;
-      answer = Ok Moved;
-      head = Some (record { index = 2; element = c; tick = pos 1 });
-      touched = Some (record { index = 1; cell = record { element = b; tick = pos 2 } });
+      head = Some (record { index = 2; element = b.third; tick = pos 1 });
+      access = Ok (late_access b);
     }
 
 -- what the run of the held feeder promises of its events
-pub record EachOnce {E : Type 0} (e : ElementKind E) (a b c d : E) (vs : List (Event E)) : Type 0 where
+pub record EachOnce {E : Type 0} (e : ElementKind E) (b : Batches E) (vs : List (Event E)) : Type 0 where
   -- they are those of the calls above, from a new tray
-  pub exact : vs ≡ events_of e (fresh e) (held_feeder e.blank a b c d)
+  pub exact : vs ≡ events_of e (fresh e) (held_feeder e.blank b)
   -- all four were laid on
-  pub laid : laid_on e.blank vs ≡ a ∷ b ∷ c ∷ d ∷ []
+  pub laid : laid_on e.blank vs ≡ b.first ∷ b.second ∷ b.third ∷ b.late ∷ []
   -- what came off is each that was laid on, once
   pub once : IsPermutation (laid_on e.blank vs) (came_off vs)
-  -- the late write leaves b in its cell
-  pub late : take 1 (drop (length (before_late e.blank a b c d)) vs) ≡ Stepped (late_access b c) ∷ []
+  -- the late write leaves `second` in its cell
+  pub late : take 1 (drop (length (before_late e.blank b)) vs) ≡ Stepped (late_step b) ∷ []

@@ -19,21 +19,27 @@ pub struct Touched<E> {
     pub cell: Cell<E>,
 }
 
-// One Step: whose it was, which access of a try it made, 1 to 5, or 0 if it was refused; its answer; and the head
-// and the cell that the access touched, if it touched one, as it left them.
+// An access: which one of its try it was, 1 to 5; its answer; and the cell that it touched, if it touched one, as it
+// left it.
 #[derive(Clone, Copy)]
 pub struct Access<E> {
-    pub worker: usize,
     pub number: u8,
-    pub answer: Result<StepAnswer, Refusal>,
-    pub head: Option<Head<E>>,
+    pub answer: StepAnswer,
     pub touched: Option<Touched<E>>,
+}
+
+// One Step: whose it was, the head after it, and the access that it made, or why it was refused.
+#[derive(Clone, Copy)]
+pub struct Step<E> {
+    pub worker: usize,
+    pub head: Option<Head<E>>,
+    pub access: Result<Access<E>, Refusal>,
 }
 
 // What a call did.
 #[derive(Clone, Copy)]
 pub enum Event<E> {
     Seated(usize, Command<E>, Result<(), Refusal>),
-    Stepped(Access<E>),
+    Stepped(Step<E>),
     Taken(usize, Result<Reply<E>, Refusal>),
 }

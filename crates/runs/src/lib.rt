@@ -6,5 +6,3 @@ pub mod held_feeder;
 pub mod no_return;
 pub mod off;
 pub mod play;
-#[cfg(test)]
-mod tests;

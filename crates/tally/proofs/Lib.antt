@@ -1,3 +1,3 @@
-mod Soundness
 mod Keeping
+mod Soundness
 mod Meaning

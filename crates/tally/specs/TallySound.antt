@@ -1,36 +1,32 @@
 -- What is always true of a tally.
-use Rattle.std.specs.Prelude.{◌≡◌, ℕ, ◌+◌, ◌<◌, ◌≤◌, true, length, take, ◌≤ℤ◌, sum_by}
-use Rattle.elements.specs.declared.commands.Command.{Command}
-use Rattle.elements.specs.declared.kinds.Amount.{Amount}
+use Rattle.std.specs.Prelude.{◌≡◌, ℕ, ◌+◌, ◌<◌, ◌≤◌, length, take, ◌≤ℤ◌, sum_by}
+use Rattle.pieces.specs.declared.seats.Seat.TheVariants.{Empty, Loaded, Running, Ended}
 use Rattle.pieces.specs.Calls.{most_seatings}
+use Rattle.pieces.specs.Seats.{seat_at}
 use Rattle.pieces.specs.Ticks.{TickOk}
 use Rattle.tally.specs.declared.records.Pair.{Pair}
-use Rattle.tally.specs.declared.records.TallySeat.{TallySeat}
-use Rattle.tally.specs.declared.records.TallySeat.TheVariants.{Empty, Loaded, PairRead, Ended}
-use Rattle.tally.specs.declared.records.TallyState.{TallyState}
-use Rattle.tally.specs.TallyKinds.{is_add}
-use Rattle.tally.specs.TallyStates.{seat_at}
+use Rattle.tally.specs.declared.records.PairRead.{PairRead}
+use Rattle.tally.specs.TallyStates.{TallySeat, TallyState}
 
 -- 1 for a seat that is loaded or runs a try, none of which has settled
 abbrev pub unsettled : TallySeat → ℕ
 unsettled Empty = 0
 unsettled (Loaded c) = 1
-unsettled (PairRead c p) = 1
+unsettled (Running r) = 1
 unsettled (Ended r) = 0
 
--- of a try that read the pair q, while the pair is p: it is an add that fitted; its tick is no newer; and with the tick of
--- now it has the total of now
-pub record TryOk (m : ℕ) (p : Pair) (c : Command Amount) (q : Pair) : Type 0 where
-  pub adds : is_add c ≡ true
-  pub fits : q.total + c.element.units ≤ m
-  pub older : q.tick ≤ℤ p.tick
-  pub stands : q.tick ≡ p.tick → q.total ≡ p.total
+-- of a try under way, while the pair is p: its add fitted; the tick that it read is no newer than that of now; and with
+-- the tick of now it has the total of now
+pub record TryOk (m : ℕ) (p : Pair) (r : PairRead) : Type 0 where
+  pub fits : r.pair.total + r.amount.units ≤ m
+  pub older : r.pair.tick ≤ℤ p.tick
+  pub stands : r.pair.tick ≡ p.tick → r.pair.total ≡ p.total
 
 -- of a seat, while the pair is p: only a try under way has something to keep
 abbrev pub SeatOk : ℕ → Pair → TallySeat → Type 0
 SeatOk m p Empty = Unit {0}
 SeatOk m p (Loaded c) = Unit {0}
-SeatOk m p (PairRead c q) = TryOk m p c q
+SeatOk m p (Running r) = TryOk m p r
 SeatOk m p (Ended r) = Unit {0}
 
 -- of the whole state: its numbers are within their bounds, its tick too, and each worker's seat is as it has to be

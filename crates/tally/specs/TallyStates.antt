@@ -1,22 +1,29 @@
 -- The state of a tally, part by part.
-use Rattle.std.specs.Prelude.{ℕ, List, slice_index_or, slice_set}
+use Rattle.std.specs.Prelude.{ℕ, List, slice_set}
+use Rattle.elements.specs.declared.kinds.Amount.{Amount}
+use Rattle.pieces.specs.declared.seats.KnownCommand.{KnownCommand}
+use Rattle.pieces.specs.declared.seats.Seat.{Seat}
 use Rattle.tally.specs.declared.records.Pair.{Pair}
-use Rattle.tally.specs.declared.records.TallySeat.{TallySeat}
-use Rattle.tally.specs.declared.records.TallySeat.TheVariants.{Empty}
-use Rattle.tally.specs.declared.records.TallyState.{TallyState}
+use Rattle.tally.specs.declared.records.PairRead.{PairRead}
+use Rattle.tally.specs.declared.records.TallyKind.{TallyKind}
+use Rattle.tally.specs.declared.records.TallyKind.TheVariants.{Add}
 
--- the state with these parts
-abbrev pub tally_of : Pair → List TallySeat → ℕ → ℕ → ℕ → TallyState
-tally_of p qs g m n = record { pair = p; seats = qs; seatings = g; limit = m; count = n }
+-- the seat of a worker
+abbrev pub TallySeat : Type 0
+TallySeat = Seat TallyKind Amount PairRead
 
--- the seat of worker i
-abbrev pub seat_at : List TallySeat → ℕ → TallySeat
-seat_at qs i = slice_index_or qs i Empty
+-- the whole state: what a tally holds
+pub record TallyState : Type 0 where
+  pub pair : Pair
+  pub seats : List TallySeat
+  pub seatings : ℕ
+  pub limit : ℕ
+  pub count : ℕ
 
--- the state with another pair
-abbrev pub with_pair : TallyState → Pair → TallyState
-with_pair s p = tally_of p s.seats s.seatings s.limit s.count
+-- the command of a try under way, which is an add
+abbrev pub tried : PairRead → KnownCommand TallyKind Amount
+tried r = record { kind = Add; element = r.amount }
 
--- and with another seat of worker i
+-- the state with another seat of worker i
 abbrev pub with_seat : TallyState → ℕ → TallySeat → TallyState
-with_seat s i q = tally_of s.pair (slice_set s.seats i q) s.seatings s.limit s.count
+with_seat s i q = record s { seats = slice_set s.seats i q }

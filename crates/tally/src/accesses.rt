@@ -1,62 +1,42 @@
 // The accesses of a try.
-ghost use Rattle.std.specs.Prelude.{◌≡◌, ◌+◌, ◌≤◌, pos, ◌≤ℤ◌};
+ghost use Rattle.std.specs.Prelude.{◌≡◌};
 ghost use Rattle.elements.specs.Codes.{reply};
-ghost use Rattle.tally.specs.TallyCalls.{passes, pair_read, unchanged, moved_pair};
+ghost use Rattle.tally.specs.TallyCalls.{passes, pair_read};
 
-use crate::kinds::adds;
-use crate::records::{Pair, TallySeat};
+use crate::records::{Pair, PairRead, TallyKind};
 use elements::answers::StepAnswer;
-use elements::commands::{Code, Command, Reply};
+use elements::commands::{Code, Reply};
 use elements::kinds::Amount;
+use pieces::seats::{KnownCommand, Seat};
 
-// Whether this add would pass the limit.
-fn over(limit: u32, total: u32, command: Command<Amount>) -> bool
-    ensures { result ≡ passes limit total command }
+// Whether an add of this amount would pass the limit.
+fn over(limit: u32, total: u32, amount: Amount) -> bool
+    ensures { result ≡ passes limit total amount }
 {
-    u64::from(limit) < u64::from(total) + u64::from(command.element.units)
+    u64::from(limit) < u64::from(total) + u64::from(amount.units)
 }
 
-// A reply with a code of the collection's own.
-pub(crate) fn reply_of(code: Code, units: u32) -> Reply<Amount>
-    ensures { result ≡ reply code (record { units = units }) }
+// A try that ended with this reply.
+pub(crate) fn ended(code: Code, units: u32) -> Seat<TallyKind, Amount, PairRead>
+    ensures { result ≡ Seat.Ended (reply code (record { units = units })) }
 {
-    Reply::new(code, Amount { units })
+    Seat::Ended(Reply::new(code, Amount { units }))
 }
 
 // Access 1: what it answers, and what the seat then holds, for a command that finds this pair.
-pub(crate) fn read_pair(limit: u32, pair: Pair, command: Command<Amount>) -> (StepAnswer, TallySeat)
-    ensures { result ≡ pair_read limit pair command }
+pub(crate) fn read_pair(
+    limit: u32,
+    pair: Pair,
+    command: KnownCommand<TallyKind, Amount>,
+) -> (StepAnswer, Seat<TallyKind, Amount, PairRead>)
+    ensures { result ≡ pair_read limit pair command.kind command.element }
 {
-    if !adds(command) {
-        (
-            StepAnswer::SettledEnded,
-            TallySeat::Ended(reply_of(Code::Total, pair.total)),
-        )
-    } else if over(limit, pair.total, command) {
-        (
-            StepAnswer::SettledEnded,
-            TallySeat::Ended(reply_of(Code::Over, 0)),
-        )
-    } else {
-        (StepAnswer::Moved, TallySeat::PairRead(command, pair))
-    }
-}
-
-// Access 2 compares: whether the pair is still as access 1 read it.
-pub(crate) fn stands(pair: Pair, read: Pair) -> bool
-    ensures { result ≡ unchanged pair read }
-{
-    pair.total == read.total && pair.tick == read.tick
-}
-
-// And sets: the pair with the amount added, a tick later.
-pub(crate) fn add(read: Pair, command: Command<Amount>) -> Pair
-    requires total { read.total + command.element.units ≤ 1000000000 }
-    requires tick { read.tick ≤ℤ pos 4000000000 }
-    ensures { result ≡ moved_pair read command }
-{
-    Pair {
-        total: read.total + command.element.units,
-        tick: read.tick + 1,
+    let amount = command.element;
+    match command.kind {
+        TallyKind::Read => (StepAnswer::SettledEnded, ended(Code::Total, pair.total)),
+        TallyKind::Add if over(limit, pair.total, amount) => {
+            (StepAnswer::SettledEnded, ended(Code::Over, 0))
+        }
+        TallyKind::Add => (StepAnswer::Moved, Seat::Running(PairRead { amount, pair })),
     }
 }

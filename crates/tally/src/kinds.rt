@@ -1,33 +1,32 @@
-// The command kinds of a tally.
+// The command kinds of a tally, and their numbers.
 ghost use Rattle.std.specs.Prelude.{◌≡◌};
-ghost use Rattle.elements.specs.Refusals.{one_of};
-ghost use Rattle.tally.specs.TallyKinds.{tally_kind_number, tally_kinds, is_add};
+ghost use Rattle.tally.specs.TallyKinds.{tally_kind_number, tally_kind_of};
 
 use crate::records::TallyKind;
-use elements::commands::Command;
-use elements::kinds::Amount;
+use elements::refusals::{Cause, Refusal};
+use pieces::refusals::refuse;
 
-impl TallyKind {
-    pub fn number(self) -> u8
-        ensures { result ≡ tally_kind_number self }
-    {
-        match self {
+impl From<TallyKind> for u8 {
+    ghost from_gives = { λ k n. n ≡ tally_kind_number k };
+
+    fn from(kind: TallyKind) -> u8 {
+        match kind {
             TallyKind::Add => 1,
             TallyKind::Read => 2,
         }
     }
 }
 
-// Whether a tally knows commands of this kind.
-pub(crate) fn knows(kind: u8) -> bool
-    ensures { result ≡ one_of tally_kinds kind }
-{
-    kind == TallyKind::Add.number() || kind == TallyKind::Read.number()
-}
+impl TryFrom<u8> for TallyKind {
+    type Error = Refusal;
 
-// Whether a command that was seated is an add; if not, it is a read.
-pub(crate) fn adds(command: Command<Amount>) -> bool
-    ensures { result ≡ is_add command }
-{
-    command.kind == TallyKind::Add.number()
+    ghost try_from_gives = { λ n r. r ≡ tally_kind_of n };
+
+    fn try_from(number: u8) -> Result<TallyKind, Refusal> {
+        match number {
+            1 => Ok(TallyKind::Add),
+            2 => Ok(TallyKind::Read),
+            _ => refuse(Cause::UnknownKind),
+        }
+    }
 }

@@ -3,19 +3,24 @@
 
 ghost use Rattle.tally.specs.TallySound.{Sound};
 
-use crate::records::TallyState;
+use crate::records::{Pair, PairRead, TallyKind};
+use elements::kinds::Amount;
+use pieces::seats::Seat;
 
 mod accesses;
 mod calls;
 mod kinds;
 pub mod piece;
 pub mod records;
-mod state;
 
-// A tally. Every tally is sound: its total is within its limit, its tick never passes the number of seatings, and a try
-// that remembers the tick of now remembers the total of now.
+// A tally: its total is at most `limit`, and its workers have the first `count` seats. Every tally is sound: its tick
+// never passes the number of seatings, and a try that remembers the tick of now remembers the total of now.
 #[derive(Drop)]
 pub struct Tally {
-    state: TallyState,
-    ghost sound: { ∥ Sound state ∥₁ },
+    pair: Pair,
+    seats: [Seat<TallyKind, Amount, PairRead>; 16],
+    seatings: u32,
+    limit: u32,
+    count: usize,
+    ghost sound: { ∥ Sound (record { pair = pair; seats = seats; seatings = seatings; limit = limit; count = count }) ∥₁ },
 }

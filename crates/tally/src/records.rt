@@ -1,5 +1,4 @@
 // What a tally holds.
-use elements::commands::{Command, Reply};
 use elements::kinds::Amount;
 
 // The command kinds of a tally.
@@ -16,24 +15,9 @@ pub struct Pair {
     pub tick: i64,
 }
 
-// The seat of one worker, by phase: it remembers what its next access needs, and no more.
+// What an add that fits remembers between its two accesses: its amount, and the pair as access 1 read it.
 #[derive(Clone, Copy)]
-pub enum TallySeat {
-    Empty,
-    // a command without a try
-    Loaded(Command<Amount>),
-    // after access 1 of an add that fits, with the pair as it read it
-    PairRead(Command<Amount>, Pair),
-    // the try ended, with this reply
-    Ended(Reply<Amount>),
-}
-
-// The whole state of a tally: its total is at most `limit`, and its workers have the first `count` seats.
-#[derive(Drop)]
-pub(crate) struct TallyState {
-    pub(crate) pair: Pair,
-    pub(crate) seats: [TallySeat; 16],
-    pub(crate) seatings: u32,
-    pub(crate) limit: u32,
-    pub(crate) count: usize,
+pub struct PairRead {
+    pub amount: Amount,
+    pub pair: Pair,
 }

@@ -1,9 +1,46 @@
 // What the tests share.
+use elements::commands::{Command, Reply};
+use elements::kinds::Bin;
+use elements::refusals::{Cause, Layer, Refusal};
 use pieces::piece::Piece;
+use pieces::tray::records::{Cell, Head};
 use std::process::Abort;
 use std::test::Fail;
 
 mod any_piece;
+mod tray;
+
+fn bin(number: u16) -> Bin {
+    Bin { number }
+}
+
+fn cell<E>(element: E, tick: i64) -> Cell<E> {
+    Cell { element, tick }
+}
+
+fn head<E>(index: usize, element: E, tick: i64) -> Head<E> {
+    Head {
+        index,
+        element,
+        tick,
+    }
+}
+
+fn command<E>(kind: u8, element: E) -> Command<E> {
+    Command { kind, element }
+}
+
+fn reply<E>(code: u8, element: E) -> Reply<E> {
+    Reply { code, element }
+}
+
+// A refusal by a piece.
+fn refusal(cause: Cause) -> Refusal {
+    Refusal {
+        layer: Layer::Piece,
+        cause,
+    }
+}
 
 // A Step for each of the answers, which must be given in their order.
 fn steps<P: Piece>(

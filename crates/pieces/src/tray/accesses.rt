@@ -1,27 +1,28 @@
-// The accesses of a try, each to one strip, and what a tray's strips are made of.
-ghost use Rattle.std.specs.Prelude.{◌≡◌, ◌+◌, ◌-◌, ◌<◌, ◌≤◌, length, ℤ, pos, negsuc, ◌≤ℤ◌, if◌then◌else◌, ◌≢◌, slice_set};
-ghost use Rattle.pieces.specs.TrayStates.{cell_at, head_of, seat_at};
-ghost use Rattle.pieces.specs.declared.tray.records.Seat.TheVariants.{Empty};
-ghost use Rattle.pieces.specs.TrayCalls.{filled, is_empty, takeable, new_cells, new_heads, enough};
+// The accesses of a try, each to one strip: what it answers, and what it leaves in the worker's seat.
+ghost use Rattle.std.specs.Prelude.{◌≡◌, ◌+◌, ◌<◌, ◌≤◌, length, pos, negsuc, ◌≤ℤ◌, if◌then◌else◌, ◌≢◌, slice_set};
+ghost use Rattle.pieces.specs.declared.seats.Seat.TheVariants.{Loaded, Running, Ended};
+ghost use Rattle.pieces.specs.declared.tray.records.Phase.TheVariants.{HeadRead, CellRead, CellWritten, NeighbourRead};
+ghost use Rattle.elements.specs.declared.answers.StepAnswer.TheVariants.{Moved, Settled, SettledEnded, Ended as AnsweredEnd, StoodOff};
+ghost use Rattle.pieces.specs.TrayStates.{cell_at, head_of};
 ghost use Rattle.pieces.specs.TrayAccess.{at_limit, neighbour, limit_reply, done_reply, helped_cells, next_of, unchanged, moved_head};
 
-use crate::tray::kinds::pushes;
-use crate::tray::records::{Cell, Head, Next, Seat, Try};
-use elements::commands::{Code, Command, Reply};
+use crate::seats::Seat;
+use crate::tray::records::{Cell, Head, Next, Phase, TrayCommand, TrayKind, TraySeat, Try};
+use elements::answers::StepAnswer;
+use elements::commands::{Code, Reply};
 use elements::element::Element;
 
 // Whether a tray of `room` places with this head is full for a push, or empty for a pop.
-pub(super) fn limits<E: Element>(room: usize, head: Head<E>, command: Command<E>) -> bool
+fn limits<E: Element>(room: usize, head: Head<E>, command: TrayCommand<E>) -> bool
     ensures { result ≡ at_limit room head command }
 {
-    if pushes(command) {
-        head.index == room
-    } else {
-        head.index == 0
+    match command.kind {
+        TrayKind::Push => head.index == room,
+        TrayKind::Pop => head.index == 0,
     }
 }
 
-// Access 1: reads the head.
+// The head as it stands, read field by field.
 pub(super) fn read_head<E: Element>(heads: &[Head<E>]) -> Head<E>
     requires { 0 < length heads.now }
     ensures { result ≡ head_of E.Element.kind.blank heads.now }
@@ -33,7 +34,7 @@ pub(super) fn read_head<E: Element>(heads: &[Head<E>]) -> Head<E>
     }
 }
 
-// Reads a whole cell: no access of a try, but to show it.
+// A whole cell: no access of a try, but to show it.
 pub(super) fn read_cell<E: Element>(cells: &[Cell<E>], index: usize) -> Cell<E>
     requires { index < length cells.now }
     ensures { result ≡ cell_at E.Element.kind.blank cells.now index }
@@ -44,17 +45,45 @@ pub(super) fn read_cell<E: Element>(cells: &[Cell<E>], index: usize) -> Cell<E>
     }
 }
 
-// Access 2: reads the element of a cell.
-pub(super) fn read_element<E: Element>(cells: &[Cell<E>], index: usize) -> E
-    requires { index < length cells.now }
-    ensures { result ≡ (cell_at E.Element.kind.blank cells.now index).element }
+// Access 1: reads the head.
+pub(super) fn begin<E: Element>(
+    heads: &[Head<E>],
+    room: usize,
+    command: TrayCommand<E>,
+) -> (StepAnswer, TraySeat<E>)
+    requires { 0 < length heads.now }
+    ensures { result ≡ (if at_limit room (head_of E.Element.kind.blank heads.now) command then Settled else Moved, Running (HeadRead (record { command = command; head = head_of E.Element.kind.blank heads.now }))) }
 {
-    cells[index].element
+    let head = read_head(heads);
+    let answer = if limits(room, head, command) {
+        StepAnswer::Settled
+    } else {
+        StepAnswer::Moved
+    };
+    (
+        answer,
+        Seat::Running(Phase::HeadRead(Try { command, head })),
+    )
 }
 
-// Access 3: helps. If the cell is as access 2 read it, and one tick behind the top that the try saw, the top is
-// written into it.
-pub(super) fn write_cell<E: Element>(cells: &mut [Cell<E>], attempt: Try<E>, element: E)
+// Access 2: reads the element of the head's cell.
+pub(super) fn read_element<E: Element>(
+    cells: &[Cell<E>],
+    attempt: Try<E>,
+) -> (StepAnswer, TraySeat<E>)
+    requires { attempt.head.index < length cells.now }
+    ensures { result ≡ (Moved, Running (CellRead attempt (cell_at E.Element.kind.blank cells.now attempt.head.index).element)) }
+{
+    let element = cells[attempt.head.index].element;
+    (
+        StepAnswer::Moved,
+        Seat::Running(Phase::CellRead(attempt, element)),
+    )
+}
+
+// Access 3 helps: if the cell is as access 2 read it, and one tick behind the top that the try saw, the top is written
+// into it.
+fn write_cell<E: Element>(cells: &mut [Cell<E>], attempt: Try<E>, element: E)
     requires index { attempt.head.index < length cells.old }
     requires tick { negsuc 0 ≤ℤ attempt.head.tick }
     ensures { cells.new ≡ helped_cells E.Element.kind cells.old attempt element }
@@ -70,24 +99,62 @@ pub(super) fn write_cell<E: Element>(cells: &mut [Cell<E>], attempt: Try<E>, ele
     }
 }
 
-// Access 4: reads the cell that the try will make the top.
-pub(super) fn read_neighbour<E: Element>(cells: &[Cell<E>], attempt: Try<E>) -> Next<E>
+// Access 3; a try that found the tray at its limit ends with it.
+pub(super) fn help<E: Element>(
+    cells: &mut [Cell<E>],
+    room: usize,
+    attempt: Try<E>,
+    element: E,
+) -> (StepAnswer, TraySeat<E>)
+    requires index { attempt.head.index < length cells.old }
+    requires tick { negsuc 0 ≤ℤ attempt.head.tick }
+    ensures after { result ≡ (if at_limit room attempt.head attempt.command then (AnsweredEnd, Ended (limit_reply E.Element.kind attempt.command)) else (Moved, Running (CellWritten attempt))) }
+    ensures cells { cells.new ≡ helped_cells E.Element.kind cells.old attempt element }
+{
+    write_cell(cells, attempt, element);
+    if limits(room, attempt.head, attempt.command) {
+        (StepAnswer::Ended, Seat::Ended(limit_reply(attempt.command)))
+    } else {
+        (
+            StepAnswer::Moved,
+            Seat::Running(Phase::CellWritten(attempt)),
+        )
+    }
+}
+
+// The cell that the try will make the top, read field by field.
+fn read_next<E: Element>(cells: &[Cell<E>], attempt: Try<E>) -> Next<E>
     requires within { neighbour attempt < length cells.now }
     requires apart { neighbour attempt ≢ attempt.head.index }
     ensures { result ≡ next_of E.Element.kind cells.now attempt }
 {
     let index = attempt.head.index;
-    if pushes(attempt.command) {
-        Next {
+    match attempt.command.kind {
+        TrayKind::Push => Next {
             element: attempt.command.element,
             tick: cells[index + 1].tick,
-        }
-    } else {
-        Next {
+        },
+        TrayKind::Pop => Next {
             element: cells[index - 1].element,
             tick: cells[index - 1].tick,
-        }
+        },
     }
+}
+
+// Access 4: reads the cell that the try will make the top.
+pub(super) fn read_neighbour<E: Element>(
+    cells: &[Cell<E>],
+    attempt: Try<E>,
+) -> (StepAnswer, TraySeat<E>)
+    requires within { neighbour attempt < length cells.now }
+    requires apart { neighbour attempt ≢ attempt.head.index }
+    ensures { result ≡ (Moved, Running (NeighbourRead attempt (next_of E.Element.kind cells.now attempt))) }
+{
+    let next = read_next(cells, attempt);
+    (
+        StepAnswer::Moved,
+        Seat::Running(Phase::NeighbourRead(attempt, next)),
+    )
 }
 
 // Whether the head is still as the try saw it.
@@ -108,10 +175,9 @@ fn next_head<E: Element>(attempt: Try<E>, next: Next<E>) -> Head<E>
     requires tick { next.tick ≤ℤ pos 4000000000 }
     ensures { result ≡ moved_head E.Element.kind attempt next }
 {
-    let index = if pushes(attempt.command) {
-        attempt.head.index + 1
-    } else {
-        attempt.head.index - 1
+    let index = match attempt.command.kind {
+        TrayKind::Push => attempt.head.index + 1,
+        TrayKind::Pop => attempt.head.index - 1,
     };
     Head {
         index,
@@ -120,131 +186,42 @@ fn next_head<E: Element>(attempt: Try<E>, next: Next<E>) -> Head<E>
     }
 }
 
-// Access 5: moves the head, if it is still as the try saw it, and says whether it did.
-pub(super) fn write_head<E: Element>(heads: &mut [Head<E>], attempt: Try<E>, next: Next<E>) -> bool
+// Access 5: moves the head, if it is still as the try saw it; if it is not, the try is stood off.
+pub(super) fn move_head<E: Element>(
+    heads: &mut [Head<E>],
+    attempt: Try<E>,
+    next: Next<E>,
+) -> (StepAnswer, TraySeat<E>)
     requires long { 0 < length heads.old }
     requires index { attempt.head.index ≤ 1024 }
     requires apart { neighbour attempt ≢ attempt.head.index }
     requires tick { next.tick ≤ℤ pos 4000000000 }
-    ensures moved { result ≡ unchanged E.Element.kind (head_of E.Element.kind.blank heads.old) attempt }
-    ensures heads { heads.new ≡ (if result then slice_set heads.old 0 (moved_head E.Element.kind attempt next) else heads.old) }
+    ensures after { result ≡ (if unchanged E.Element.kind (head_of E.Element.kind.blank heads.old) attempt then (SettledEnded, Ended (done_reply E.Element.kind attempt)) else (StoodOff, Loaded attempt.command)) }
+    ensures heads { heads.new ≡ (if unchanged E.Element.kind (head_of E.Element.kind.blank heads.old) attempt then slice_set heads.old 0 (moved_head E.Element.kind attempt next) else heads.old) }
 {
-    let moved = stands(heads, attempt);
-    if moved {
-        heads[0] = next_head(attempt, next);
+    if !stands(heads, attempt) {
+        return (StepAnswer::StoodOff, Seat::Loaded(attempt.command));
     }
-    moved
+    heads[0] = next_head(attempt, next);
+    (StepAnswer::SettledEnded, Seat::Ended(done_reply(attempt)))
 }
 
 // The reply of a try that found the tray at its limit.
-pub(super) fn limit_reply<E: Element>(command: Command<E>) -> Reply<E>
+fn limit_reply<E: Element>(command: TrayCommand<E>) -> Reply<E>
     ensures { result ≡ limit_reply E.Element.kind command }
 {
-    let code = if pushes(command) {
-        Code::Full
-    } else {
-        Code::Empty
-    };
-    Reply::new(code, E::blank())
+    match command.kind {
+        TrayKind::Push => Reply::new(Code::Full, E::blank()),
+        TrayKind::Pop => Reply::new(Code::Empty, E::blank()),
+    }
 }
 
 // The reply of a try that moved the head.
-pub(super) fn done_reply<E: Element>(attempt: Try<E>) -> Reply<E>
+fn done_reply<E: Element>(attempt: Try<E>) -> Reply<E>
     ensures { result ≡ done_reply E.Element.kind attempt }
 {
-    if pushes(attempt.command) {
-        Reply::new(Code::Done, E::blank())
-    } else {
-        Reply::new(Code::Popped, attempt.head.element)
+    match attempt.command.kind {
+        TrayKind::Push => Reply::new(Code::Done, E::blank()),
+        TrayKind::Pop => Reply::new(Code::Popped, attempt.head.element),
     }
-}
-
-pub(super) fn read_seat<E: Element>(seats: &[Seat<E>], worker: usize) -> Seat<E>
-    requires { worker < length seats.now }
-    ensures { result ≡ seat_at seats.now worker }
-{
-    seats[worker]
-}
-
-pub(super) fn write_seat<E: Element>(seats: &mut [Seat<E>], worker: usize, seat: Seat<E>)
-    requires { worker < length seats.old }
-    ensures { seats.new ≡ slice_set seats.old worker seat }
-{
-    seats[worker] = seat;
-}
-
-// Whether a seat is empty.
-pub(super) fn idle<E: Element>(seat: Seat<E>) -> bool
-    ensures { result ≡ is_empty seat }
-{
-    matches!(seat, Seat::Empty)
-}
-
-// What can be taken from a seat.
-pub(super) fn reply_in<E: Element>(seat: Seat<E>) -> Option<Reply<E>>
-    ensures { result ≡ takeable E.Element.kind seat }
-{
-    match seat {
-        Seat::Loaded(_) => Some(Reply::new(Code::StoodOff, E::blank())),
-        Seat::Ended(reply) => Some(reply),
-        _ => None,
-    }
-}
-
-// Empties the first `count` seats.
-pub(super) fn empty_seats<E: Element>(seats: &mut [Seat<E>], count: usize)
-    requires { count ≤ length seats.old }
-    ensures { seats.new ≡ filled count Empty seats.old }
-{
-    for i in 0..count {
-        write_seat(seats, i, Seat::Empty);
-    }
-}
-
-// Writes one cell into the first `count` places.
-fn fill_cells<E: Element>(cells: &mut [Cell<E>], count: usize, cell: Cell<E>)
-    requires { count ≤ length cells.old }
-    ensures { cells.new ≡ filled count cell cells.old }
-{
-    for x in 0..count {
-        cells[x] = cell;
-    }
-}
-
-// The cells of a new tray with `room` places.
-pub(super) fn make_cells<E: Element>(cells: &mut [Cell<E>], room: usize)
-    requires { room < length cells.old }
-    ensures { cells.new ≡ new_cells E.Element.kind room cells.old }
-{
-    fill_cells(
-        cells,
-        room + 1,
-        Cell {
-            element: E::blank(),
-            tick: 0,
-        },
-    );
-    cells[0] = Cell {
-        element: E::blank(),
-        tick: -1,
-    };
-}
-
-// The head of a new tray.
-pub(super) fn make_head<E: Element>(heads: &mut [Head<E>])
-    requires { 0 < length heads.old }
-    ensures { heads.new ≡ new_heads E.Element.kind heads.old }
-{
-    heads[0] = Head {
-        index: 0,
-        element: E::blank(),
-        tick: 0,
-    };
-}
-
-// Whether strips of these lengths hold a tray.
-pub(super) fn hold_tray<E: Element>(cells: &[Cell<E>], heads: &[Head<E>], seats: &[Seat<E>]) -> bool
-    ensures { result ≡ enough cells.now heads.now seats.now }
-{
-    cells.len() > 1 && heads.len() > 0 && seats.len() > 0
 }

@@ -40,10 +40,10 @@ impl<'a, E: Element> Piece for Tray<'a, E> {
         Tray::workers(self)
     }
 
-    fn seat(&mut self, worker: usize, kind: u8, element: E) -> Result<(), Refusal>
-        ensures { Exactly result (tray_state self.new) (seat_outcome (tray_state self.old) worker (record { kind = kind; element = element })) }
+    fn seat(&mut self, worker: usize, command: Command<E>) -> Result<(), Refusal>
+        ensures { Exactly result (tray_state self.new) (seat_outcome (tray_state self.old) worker command) }
     {
-        Tray::seat(self, worker, Command { kind, element })
+        Tray::seat(self, worker, command)
     }
 
     fn step(&mut self, worker: usize) -> Result<StepAnswer, Refusal> {

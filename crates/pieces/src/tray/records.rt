@@ -1,12 +1,15 @@
 // What the strips of a tray hold.
-use elements::commands::{Command, Reply};
+use crate::seats::{KnownCommand, Seat};
 
 // The command kinds of a tray.
-#[derive(Clone, Copy)]
+#[derive(Clone, Copy, PartialEq, Eq, Debug)]
 pub enum TrayKind {
     Push,
     Pop,
 }
+
+// A command that a tray knows.
+pub type TrayCommand<E> = KnownCommand<TrayKind, E>;
 
 // One place of a tray: the element last written there, and its tick.
 #[derive(Clone, Copy, PartialEq, Eq, Debug)]
@@ -24,10 +27,10 @@ pub struct Head<E> {
     pub tick: i64,
 }
 
-// A try under way: its command, and the head as its first access read it.
+// What a try keeps from its first access on: its command, and the head as that access read it.
 #[derive(Clone, Copy)]
 pub struct Try<E> {
-    pub command: Command<E>,
+    pub command: TrayCommand<E>,
     pub head: Head<E>,
 }
 
@@ -38,12 +41,9 @@ pub struct Next<E> {
     pub tick: i64,
 }
 
-// The seat of one worker, by phase: it remembers what its next access needs, and no more.
+// A try under way, by its last access: it remembers what its next access needs, and no more.
 #[derive(Clone, Copy)]
-pub enum Seat<E> {
-    Empty,
-    // a command without a try
-    Loaded(Command<E>),
+pub enum Phase<E> {
     // after access 1
     HeadRead(Try<E>),
     // after access 2, with the element of the head's cell
@@ -52,6 +52,7 @@ pub enum Seat<E> {
     CellWritten(Try<E>),
     // after access 4
     NeighbourRead(Try<E>, Next<E>),
-    // the try ended, with this reply
-    Ended(Reply<E>),
 }
+
+// The seat of one worker of a tray.
+pub type TraySeat<E> = Seat<TrayKind, E, Phase<E>>;

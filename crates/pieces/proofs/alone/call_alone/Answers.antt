@@ -1,6 +1,5 @@
 use Rattle.std.proofs.Common.{◌∙◌}
 use Rattle.std.proofs.lemmas.Result.{err_from_is_err_and}
-use Rattle.elements.specs.declared.commands.Command.{Command}
 use Rattle.pieces.specs.Meanings.{names_of, view_of}
 use Rattle.pieces.proofs.Solo.{refused_alone, alone}
 use Rattle.pieces.proofs.alone.call_alone.Goals as goal
@@ -9,7 +8,7 @@ pub returns-in_err-seat_meant : goal.returns-in_err-seat_meant
 returns-in_err-seat_meant g c =
     let m = g.P.Piece.meaning in
     let x = c.args.piece.now in
-    let d : Command g.row.P-Element.Denot = record { kind = c.args.kind; element = c.args.element } in
+    let d = c.args.command in
     let p = err_from_is_err_and c.from_residual.result c.from_residual.ensures.1 in
     rw (p.1, p.2)
     (refused_alone (names_of m x) (view_of m x) c.args.worker d c.in_err-seat_meant.field-0.0 (view_of m c.seat_meant.new.piece) c.in_err-seat_meant.ensures.meant)
@@ -18,7 +17,7 @@ pub returns : goal.returns
 returns g c =
     let m = g.P.Piece.meaning in
     let x = c.args.piece.now in
-    let d : Command g.row.P-Element.Denot = record { kind = c.args.kind; element = c.args.element } in
+    let d = c.args.command in
     alone (names_of m x) (view_of m x) c.args.worker d (names_of m c.seat_meant.new.piece) (names_of m c.finish.new.piece)
     c.seat_meant.ensures.names (c.finish.ensures.names ∙ c.seat_meant.ensures.names)
     (view_of m c.seat_meant.new.piece) (view_of m c.finish.new.piece) (view_of m c.take_meant.new.piece) c.take_meant.result

@@ -1,5 +1,4 @@
 use Rattle.std.proofs.Common.{Result, ap, ◌∙◌}
-use Rattle.elements.specs.declared.commands.Command.{Command}
 use Rattle.elements.specs.declared.refusals.Refusal.{Refusal}
 use Rattle.pieces.specs.Calls.{seated}
 use Rattle.pieces.specs.Meanings.{names_of, view_of}
@@ -10,7 +9,7 @@ pub returns : goal.returns
 returns g c =
     let p = g.P.Piece.meaning in
     let k = c.keeps_meaning.ensures in
-    let d : Command g.row.P-Element.Denot = record { kind = c.args.kind; element = c.args.element } in
+    let d = c.args.command in
     let x = c.args.piece.now in
     let y : Result (Unit {0}) Refusal × p.Model = p.calls.seat (p.model x) c.args.worker d in
     record {

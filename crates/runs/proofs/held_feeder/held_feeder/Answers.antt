@@ -6,5 +6,5 @@ use Rattle.runs.proofs.held_feeder.held_feeder.Goals as goal
 
 pub returns : goal.returns
 returns c =
-    played_once slip_kind (λ x. eq-eqb x.batch x.batch refl) c.args.first c.args.second c.args.third c.args.late _ _ _ c.play.result
+    played_once slip_kind (λ x. eq-eqb x.batch x.batch refl) c.args.batches _ _ _ c.play.result
     c.new-tray.ensures.made (c.deref.ensures.value ∙ c.in_ok-calls.ensures) c.play.ensures

@@ -6,4 +6,4 @@ use Rattle.runs.proofs.no_return.nothing_returns.Goals as goal
 pub returns : goal.returns
 returns g c =
     no_return g.E.Element.kind g.met.E.Element.reflexive (tray_state c.args.tray.now)
-    (known g.row.E.coded g.E.Element.kind.blank c.args.tray.now.strips c.args.tray.now.sound)
+    (known g.row.E.coded g.E.Element.kind.blank (tray_state c.args.tray.now) c.args.tray.now.sound)

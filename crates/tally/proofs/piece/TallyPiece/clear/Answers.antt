@@ -1,6 +1,6 @@
+use Rattle.tally.proofs.Keeping.{known}
 use Rattle.tally.proofs.Soundness.{clear_sound}
-use Rattle.tally.proofs.Keeping.{known, keep}
 use Rattle.tally.proofs.piece.TallyPiece.clear.Goals as goal
 
-pub invariant_of-self : goal.invariant_of-self
-invariant_of-self c = record { sound = keep c.clear.ensures (clear_sound _ (known c.args.self.now)) }
+pub way_repeat_by-self : goal.way_repeat_by-self
+way_repeat_by-self c = (∣ clear_sound _ (known c.args.self.now) ∣₁, tt)

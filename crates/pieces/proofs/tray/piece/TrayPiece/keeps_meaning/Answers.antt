@@ -6,4 +6,4 @@ use Rattle.pieces.proofs.tray.piece.TrayPiece.keeps_meaning.Goals as goal
 pub returns : goal.returns
 returns g c =
     meaning_kept g.E.Element.kind g.met.E.Element.reflexive (tray_state c.args.self.now)
-    (known g.row.E.coded g.E.Element.kind.blank c.args.self.now.strips c.args.self.now.sound)
+    (known g.row.E.coded g.E.Element.kind.blank (tray_state c.args.self.now) c.args.self.now.sound)

@@ -8,4 +8,4 @@ pub returns : goal.returns
 returns g c =
     c.workers.ensures
     ∙ sym (size g.E.Element.kind (tray_state c.args.self.now)
-    (known g.row.E.coded g.E.Element.kind.blank c.args.self.now.strips c.args.self.now.sound))
+    (known g.row.E.coded g.E.Element.kind.blank (tray_state c.args.self.now) c.args.self.now.sound))
