@@ -9,7 +9,7 @@ pub struct Command<E> {
     pub element: E,
 }
 
-// A reply: a code and an element.
+// A reply: a code and an element. The code is a number, since an object of another make may have codes of its own.
 #[derive(Clone, Copy, PartialEq, Eq, Debug)]
 pub struct Reply<E> {
     pub code: u8,

@@ -58,6 +58,7 @@ impl Element for Slip {
         }
     }
 
+    // Not equality: the batch alone decides.
     fn same(self, other: Slip) -> bool {
         self.batch == other.batch
     }

@@ -66,7 +66,7 @@ impl From<Cause> for u8 {
 }
 
 impl Layer {
-    // Whether this layer asks the question with this number.
+    // Whether this layer asks the question with this number, which may be any: some are no question at all.
     pub fn asks(self, number: u8) -> bool
         ensures { result ≡ asks self number }
     {

@@ -6,7 +6,7 @@ use pieces::tray::records::{Head, TrayKind};
 use runs::events::{Access, Event, Step, Touched};
 use std::fmt;
 
-// What a call did.
+// What a call did, by the cases of a closed list.
 #[derive(Clone, Copy)]
 pub struct EventLine(pub Event<Slip>);
 
@@ -54,10 +54,9 @@ struct CommandText(Command<Slip>);
 
 impl fmt::Display for CommandText {
     fn fmt<W: fmt::Write>(&self, f: &mut fmt::Formatter<W>) -> fmt::Result {
-        if self.0.kind == u8::from(TrayKind::Push) {
-            write!(f, "push {}", self.0.element.batch)
-        } else {
-            write!(f, "pop")
+        match TrayKind::try_from(self.0.kind) {
+            Ok(TrayKind::Push) => write!(f, "push {}", self.0.element.batch),
+            _ => write!(f, "pop"),
         }
     }
 }

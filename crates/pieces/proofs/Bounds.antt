@@ -1,6 +1,8 @@
 -- Every call leaves a tray within its bounds.
-use Rattle.std.proofs.Common.{◌≡◌, ℕ, zero, suc, ◌+◌, ◌<◌, ◌≤◌, Bool, true, false, cond, List, [], ◌∷◌, length, take, set, replicate, sym, refl, ap, ◌∙◌, subst, inl, inr, zero-le, le_refl, le_of_suc-le-suc, arith}
-use Rattle.std.proofs.lemmas.List.{length-set, length-take-le, get_or-take, get_or-set_same, get_or-set_other}
+use Rattle.std.proofs.Common.{◌≡◌, ℕ, ◌+◌, ◌<◌, ◌≤◌, Bool, true, false, cond, List, [], ◌∷◌, length, take, set, replicate, sum_by, sym, refl, ap, ◌∙◌, subst, inl, inr, zero-le, le_refl, arith}
+use Rattle.std.proofs.lemmas.List.{length-set, get_or-set_same, get_or-set_other}
+use Rattle.std.proofs.lemmas.List.Sums.{sum_by-cons}
+use Rattle.std.proofs.lemmas.List.Folds.{sum_by-replicate}
 use Rattle.std.proofs.lemmas.Bool.{cases_eq}
 use Rattle.elements.specs.Kinds.{ElementKind}
 use Rattle.pieces.specs.declared.tray.records.Cell.{Cell}
@@ -19,22 +21,20 @@ use Rattle.pieces.proofs.Filling.{take_filled, length_filled, get_or_filled}
 use Rattle.pieces.specs.Calls.{most_seatings}
 use Rattle.pieces.specs.Ticks.{TickOk}
 use Rattle.pieces.proofs.CallLaws.{by_test}
-use Rattle.pieces.proofs.SeatLaws.{take_of_set}
+use Rattle.pieces.proofs.SeatLaws.{sum_set}
 use Rattle.pieces.proofs.TickLaws.{tick_kept, tick_up}
 use Rattle.pieces.proofs.Ticks.{try_kept, seat_kept, goes}
 
--- another seat changes the number of unsettled ones by its own
-unsettled_set : {E : Type 0} (k : ℕ) (ss : List (TraySeat E)) (i : ℕ) (q : TraySeat E) → i < length ss
-    → all_unsettled k (set ss i q) + unsettled k (seat_at ss i) ≡ all_unsettled k ss + unsettled k q
-unsettled_set k [] i q l = omega arith
-unsettled_set k (x ∷ xs) zero q l = omega arith
-unsettled_set k (x ∷ xs) (suc i) q l = omega (arith, unsettled_set k xs i q (le_of_suc-le-suc l))
+-- how many seats are unsettled, as a sum
+is_sum : {E : Type 0} (k : ℕ) (qs : List (TraySeat E)) → all_unsettled k qs ≡ sum_by (unsettled k) qs
+is_sum k [] = refl
+is_sum k (q ∷ qs) = omega (arith, is_sum k qs, sum_by-cons (unsettled k) q qs)
 
 at_most_one : (b : Bool) → cond {A = ℕ} b 0 1 ≤ 1
 at_most_one true = zero-le
 at_most_one false = le_refl 1
 
-module _ {E : Type 0} (blank : E) (s : TrayState E) (b : Bounded blank s) (i : ℕ) (l : i < s.count) where
+module _ {E : Type 0} (e : ElementKind E) (s : TrayState E) (b : Bounded e.blank s) (i : ℕ) (l : i < s.count) where
   abbrev before : ℕ
   before = all_unsettled s.room (take s.count s.seats)
 
@@ -42,28 +42,25 @@ module _ {E : Type 0} (blank : E) (s : TrayState E) (b : Bounded blank s) (i : �
   after q = all_unsettled s.room (take s.count (set s.seats i q))
 
   -- what is true of a tray with workers
-  pub held : Held blank s before
+  pub held : Held e.blank s before
   held = b.held (omega arith)
-
-  within : i < length (take s.count s.seats)
-  within = omega (arith, length-take-le s.count s.seats b.seats_long)
 
   counted : (q : TraySeat E) → after q + unsettled s.room (seat_at s.seats i) ≡ before + unsettled s.room q
   counted q =
       omega (
         arith,
-        ap (all_unsettled s.room) (take_of_set s.count s.seats i q),
-        unsettled_set s.room (take s.count s.seats) i q within,
-        ap (unsettled s.room) (get_or-take s.count s.seats i Empty l),
+        is_sum s.room (take s.count s.seats),
+        is_sum s.room (take s.count (set s.seats i q)),
+        sum_set (unsettled s.room) s.count Empty s.seats b.seats_long i l q,
       )
 
   -- worker i has another seat, in a tray with other cells, another head and more seatings
   reseated : (cs : List (Cell E)) (hs : List (Head E)) (q : TraySeat E) (g : ℕ)
       → after q + s.seatings ≤ before + g → g ≤ most_seatings
-      → length cs ≡ length s.cells → length hs ≡ length s.heads → (head_of blank hs).index ≤ s.room
-      → ((y : ℕ) → y ≤ s.room → TickOk (after q) g (cell_at blank cs y).tick) → TickOk (after q) g (head_of blank hs).tick
+      → length cs ≡ length s.cells → length hs ≡ length s.heads → (head_of e.blank hs).index ≤ s.room
+      → ((y : ℕ) → y ≤ s.room → TickOk (after q) g (cell_at e.blank cs y).tick) → TickOk (after q) g (head_of e.blank hs).tick
       → SeatOk s.room (after q) g q
-      → Bounded blank (record { cells = cs; heads = hs; seats = set s.seats i q; seatings = g; room = s.room; count = s.count })
+      → Bounded e.blank (record { cells = cs; heads = hs; seats = set s.seats i q; seatings = g; room = s.room; count = s.count })
   reseated cs hs q g more few cl hl top cells head ok =
       record {
         seats_long = omega (arith, b.seats_long, length-set s.seats i q);
@@ -78,8 +75,8 @@ module _ {E : Type 0} (blank : E) (s : TrayState E) (b : Bounded blank s) (i : �
               cells_ok = cells;
               head_ok = head;
               seats_ok = λ j m. elim (cases_eq j i) [
-                | inl e ↦ subst (λ z. SeatOk s.room (after q) g z)
-                    (sym (ap (seat_at (set s.seats i q)) e ∙ get_or-set_same s.seats i q Empty (omega (arith, b.seats_long)))) ok
+                | inl f ↦ subst (λ z. SeatOk s.room (after q) g z)
+                    (sym (ap (seat_at (set s.seats i q)) f ∙ get_or-set_same s.seats i q Empty (omega (arith, b.seats_long)))) ok
                 | inr n ↦ subst (λ z. SeatOk s.room (after q) g z)
                     (sym (get_or-set_other s.seats i j q Empty n)) (seat_kept before s.seatings (after q) g more s.room _ (held.seats_ok j m))
               ];
@@ -88,7 +85,7 @@ module _ {E : Type 0} (blank : E) (s : TrayState E) (b : Bounded blank s) (i : �
 
   -- only the seat is another
   quiet : (q : TraySeat E) (g : ℕ) → after q + s.seatings ≤ before + g → g ≤ most_seatings → SeatOk s.room (after q) g q
-      → Bounded blank (record { cells = s.cells; heads = s.heads; seats = set s.seats i q; seatings = g; room = s.room; count = s.count })
+      → Bounded e.blank (record { cells = s.cells; heads = s.heads; seats = set s.seats i q; seatings = g; room = s.room; count = s.count })
   quiet q g more few ok =
       reseated s.cells s.heads q g more few refl refl held.top
       (λ y m. tick_kept before s.seatings (after q) g more (held.cells_ok y m))
@@ -96,17 +93,17 @@ module _ {E : Type 0} (blank : E) (s : TrayState E) (b : Bounded blank s) (i : �
 
   -- what a seat that is no more unsettled than before leaves
   fewer : (q q' : TraySeat E) → seat_at s.seats i ≡ q → unsettled s.room q' ≤ unsettled s.room q → after q' + s.seatings ≤ before + s.seatings
-  fewer q q' e m = omega (arith, counted q', ap (unsettled s.room) e)
+  fewer q q' f m = omega (arith, counted q', ap (unsettled s.room) f)
 
-  helped : (e : ElementKind E) (t : Try E) (u : E) (q : TraySeat E) → after q + s.seatings ≤ before + s.seatings
+  helped : (t : Try E) (u : E) (q : TraySeat E) → after q + s.seatings ≤ before + s.seatings
       → TryOk s.room before s.seatings t → SeatOk s.room (after q) s.seatings q
-      → Bounded blank (record { cells = helped_cells e s.cells t u; heads = s.heads; seats = set s.seats i q; seatings = s.seatings; room = s.room; count = s.count })
-  helped e t u q more try ok = go (helps e (cell_at e.blank s.cells t.head.index) t u)
+      → Bounded e.blank (record { cells = helped_cells e s.cells t u; heads = s.heads; seats = set s.seats i q; seatings = s.seatings; room = s.room; count = s.count })
+  helped t u q more try ok = go (helps e (cell_at e.blank s.cells t.head.index) t u)
     where
       within_cells : t.head.index < length s.cells
       within_cells = omega (arith, held.cells_long, try.index)
 
-      go : (h : Bool) → Bounded blank (record {
+      go : (h : Bool) → Bounded e.blank (record {
         cells = cond h (set s.cells t.head.index (record { element = t.head.element; tick = t.head.tick })) s.cells;
         heads = s.heads;
         seats = set s.seats i q;
@@ -119,7 +116,7 @@ module _ {E : Type 0} (blank : E) (s : TrayState E) (b : Bounded blank s) (i : �
           (length-set s.cells t.head.index _) refl held.top
           (λ y m. elim (cases_eq y t.head.index) [
             | inl f ↦ subst (λ z. TickOk (after q) s.seatings z.tick)
-                (sym (ap (cell_at blank (set s.cells t.head.index (record { element = t.head.element; tick = t.head.tick }))) f
+                (sym (ap (cell_at e.blank (set s.cells t.head.index (record { element = t.head.element; tick = t.head.tick }))) f
                 ∙ get_or-set_same s.cells t.head.index (record { element = t.head.element; tick = t.head.tick }) _ within_cells))
                 (tick_kept before s.seatings (after q) s.seatings more try.tick)
             | inr n ↦ subst (λ z. TickOk (after q) s.seatings z.tick)
@@ -130,12 +127,12 @@ module _ {E : Type 0} (blank : E) (s : TrayState E) (b : Bounded blank s) (i : �
       go false = quiet q s.seatings more b.few ok
 
   -- the head moves, and one seat more has settled
-  moved : (e : ElementKind E) (t : Try E) (x : Next E) (q : TraySeat E) → after q + 1 ≤ before → SeatOk s.room before s.seatings (Running (NeighbourRead t x))
+  moved : (t : Try E) (x : Next E) (q : TraySeat E) → after q + 1 ≤ before → SeatOk s.room before s.seatings (Running (NeighbourRead t x))
       → SeatOk s.room (after q) s.seatings q
-      → Bounded blank (record { cells = s.cells; heads = set s.heads 0 (moved_head e t x); seats = set s.seats i q; seatings = s.seatings; room = s.room; count = s.count })
-  moved e t x q less o ok =
+      → Bounded e.blank (record { cells = s.cells; heads = set s.heads 0 (moved_head e t x); seats = set s.seats i q; seatings = s.seatings; room = s.room; count = s.count })
+  moved t x q less o ok =
       let more : after q + s.seatings ≤ before + s.seatings = omega arith in
-      let top : head_of blank (set s.heads 0 (moved_head e t x)) ≡ moved_head e t x = get_or-set_same s.heads 0 (moved_head e t x) _ held.heads_long in
+      let top : head_of e.blank (set s.heads 0 (moved_head e t x)) ≡ moved_head e t x = get_or-set_same s.heads 0 (moved_head e t x) _ held.heads_long in
       reseated s.cells (set s.heads 0 (moved_head e t x)) q s.seatings more b.few refl (length-set s.heads 0 _)
       (subst (λ h. h.index ≤ s.room) (sym top) (goes s.room t o.0.index o.1).0)
       (λ y m. tick_kept before s.seatings (after q) s.seatings more (held.cells_ok y m))
@@ -143,23 +140,23 @@ module _ {E : Type 0} (blank : E) (s : TrayState E) (b : Bounded blank s) (i : �
       ok
 
   -- an access of worker i, whose seat is q
-  pub access_bounded : (e : ElementKind E) → e.blank ≡ blank → (q : TraySeat E) → seat_at s.seats i ≡ q → SeatOk s.room before s.seatings q
-      → Bounded blank (accessed e s i q).1
-  access_bounded e f Empty at o = b
-  access_bounded e f (Loaded c) at o =
+  pub access_bounded : (q : TraySeat E) → seat_at s.seats i ≡ q → SeatOk s.room before s.seatings q
+      → Bounded e.blank (accessed e s i q).1
+  access_bounded Empty at o = b
+  access_bounded (Loaded c) at o =
       let more = fewer (Loaded c) (Running (HeadRead (record { command = c; head = head_of e.blank s.heads }))) at (at_most_one (at_limit s.room (head_of e.blank s.heads) c)) in
       quiet _ s.seatings more b.few
       (record {
-        index = subst (λ d. (head_of d s.heads).index ≤ s.room) (sym f) held.top;
-        tick = tick_kept before s.seatings _ s.seatings more (subst (λ d. TickOk before s.seatings (head_of d s.heads).tick) (sym f) held.head_ok);
+        index = held.top;
+        tick = tick_kept before s.seatings _ s.seatings more held.head_ok;
       })
-  access_bounded e f (Running (HeadRead t)) at o =
+  access_bounded (Running (HeadRead t)) at o =
       let more = fewer (Running (HeadRead t)) (Running (CellRead t (cell_at e.blank s.cells t.head.index).element)) at (le_refl (cond (settled_early s.room t) 0 1)) in
       quiet _ s.seatings more b.few (try_kept before s.seatings _ s.seatings more o)
-  access_bounded e f (Running (CellRead t u)) at o = go (settled_early s.room t) refl
+  access_bounded (Running (CellRead t u)) at o = go (settled_early s.room t) refl
     where
       go : (y : Bool) → settled_early s.room t ≡ y
-          → Bounded blank (record {
+          → Bounded e.blank (record {
             cells = helped_cells e s.cells t u;
             heads = s.heads;
             seats = set s.seats i (cond y (Ended (limit_reply e t.command)) (Running (CellWritten t)));
@@ -167,37 +164,34 @@ module _ {E : Type 0} (blank : E) (s : TrayState E) (b : Bounded blank s) (i : �
             room = s.room;
             count = s.count;
           })
-      go true y = helped e t u _ (fewer (Running (CellRead t u)) (Ended (limit_reply e t.command)) at zero-le) o tt
+      go true y = helped t u _ (fewer (Running (CellRead t u)) (Ended (limit_reply e t.command)) at zero-le) o tt
       go false y =
           let more = fewer (Running (CellRead t u)) (Running (CellWritten t)) at (omega (arith, ap (λ z. cond {A = ℕ} z 0 1) y)) in
-          helped e t u _ more o (try_kept before s.seatings _ s.seatings more o, y)
-  access_bounded e f (Running (CellWritten t)) at o =
+          helped t u _ more o (try_kept before s.seatings _ s.seatings more o, y)
+  access_bounded (Running (CellWritten t)) at o =
       let more = fewer (Running (CellWritten t)) (Running (NeighbourRead t (next_of e s.cells t))) at (le_refl 1) in
       quiet _ s.seatings more b.few (
         try_kept before s.seatings _ s.seatings more o.0,
         o.1,
-        tick_kept before s.seatings _ s.seatings more
-            (subst (λ d. TickOk before s.seatings (cell_at d s.cells (neighbour t)).tick) (sym f)
-            (held.cells_ok (neighbour t) (goes s.room t o.0.index o.1).0)),
+        tick_kept before s.seatings _ s.seatings more (held.cells_ok (neighbour t) (goes s.room t o.0.index o.1).0),
       )
-  access_bounded e f (Running (NeighbourRead t x)) at o =
-      by_test (Bounded blank) (unchanged e (head_of e.blank s.heads) t) _ _
-      (λ _. moved e t x (Ended (done_reply e t)) (omega (arith, counted (Ended (done_reply e t)), ap (unsettled s.room) at)) o tt)
+  access_bounded (Running (NeighbourRead t x)) at o =
+      by_test (Bounded e.blank) (unchanged e (head_of e.blank s.heads) t) _ _
+      (λ _. moved t x (Ended (done_reply e t)) (omega (arith, counted (Ended (done_reply e t)), ap (unsettled s.room) at)) o tt)
       (λ _. quiet (Loaded t.command) s.seatings (fewer (Running (NeighbourRead t x)) (Loaded t.command) at (le_refl 1)) b.few tt)
-  access_bounded e f (Ended r) at o = b
+  access_bounded (Ended r) at o = b
 
   -- a seat is emptied
-  pub emptied_bounded : Bounded blank (with_seat s i Empty)
+  pub emptied_bounded : Bounded e.blank (with_seat s i Empty)
   emptied_bounded = quiet Empty s.seatings (fewer (seat_at s.seats i) Empty refl zero-le) b.few tt
 
   -- or loaded, which is one seating more
   pub loaded_bounded : (c : TrayCommand E) → s.seatings < most_seatings
-      → Bounded blank (state_of s.cells s.heads (set s.seats i (Loaded c)) (s.seatings + 1) s.room s.count)
+      → Bounded e.blank (state_of s.cells s.heads (set s.seats i (Loaded c)) (s.seatings + 1) s.room s.count)
   loaded_bounded c f = quiet (Loaded c) (s.seatings + 1) (omega (arith, counted (Loaded c))) (omega arith) tt
 
-pub none_unsettled : {E : Type 0} (k n : ℕ) (q : TraySeat E) → q ≡ Empty → all_unsettled k (replicate n q) ≡ 0
-none_unsettled k zero q e = refl
-none_unsettled k (suc n) q e = omega (arith, none_unsettled k n q e, ap (unsettled k) e)
+pub none_unsettled : (E : Type 0) (k n : ℕ) → all_unsettled {E = E} k (replicate n Empty) ≡ 0
+none_unsettled E k n = omega (arith, is_sum {E = E} k (replicate n Empty), sum_by-replicate (unsettled {E = E} k) n Empty)
 
 module _ {E : Type 0} (blank : E) (s : TrayState E) (b : Bounded blank s) where
   abbrev left : ℕ
@@ -205,7 +199,7 @@ module _ {E : Type 0} (blank : E) (s : TrayState E) (b : Bounded blank s) where
 
   pub clear_bounded : Bounded blank (clear_outcome s)
   clear_bounded =
-      let none : left ≡ 0 = ap (all_unsettled s.room) (take_filled s.count Empty s.seats) ∙ none_unsettled s.room s.count Empty refl in
+      let none : left ≡ 0 = ap (all_unsettled s.room) (take_filled s.count Empty s.seats) ∙ none_unsettled E s.room s.count in
       record {
         seats_long = omega (arith, b.seats_long, length_filled s.count Empty s.seats b.seats_long);
         room_small = b.room_small;

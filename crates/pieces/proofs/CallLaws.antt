@@ -1,8 +1,7 @@
 -- What a call of a piece does, by its worker: one that there is, or one that there is not.
 use Rattle.std.proofs.Common.{◌≡◌, ℕ, ◌+◌, ◌<◌, Bool, true, false, cond, ltb, List, None, Ok, Err, Option, Result, sym, refl, ap, ◌∙◌, subst, set}
-use Rattle.std.proofs.lemmas.Bool.{both_ways, ltb-true, lt-ltb, cond-true, cond-false}
+use Rattle.std.proofs.lemmas.Bool.{ltb-true, lt-ltb, cond-true}
 use Rattle.elements.specs.Outcomes.{Exactly, unless_refused}
-use Rattle.std.specs.Result.{IsErr, IsErrAnd}
 use Rattle.elements.specs.Refusals.{refusal, ask}
 use Rattle.elements.specs.declared.answers.StepAnswer.{StepAnswer}
 use Rattle.elements.specs.declared.refusals.Refusal.{Refusal}
@@ -22,11 +21,6 @@ use Rattle.elements.specs.declared.commands.Reply.{Reply}
 pub by_test : {R M : Type 0} (P : M → Type 0) (b : Bool) (y z : R × M) → (b ≡ true → P y.1) → (b ≡ false → P z.1) → P (cond b y z).1
 by_test P true y z f g = f refl
 by_test P false y z f g = g refl
-
--- an error that `?` hands on
-pub handed_on : {A : Type 0} (r : Result A Refusal) (x : Refusal) → IsErr r × IsErrAnd r (λ y. y ≡ x) → r ≡ Err x
-handed_on (Ok a) x o = absurd (both_ways false refl o.0)
-handed_on (Err y) x o = ap (λ z. Err z) o.1
 
 -- a call of a worker that there is
 pub if_there : {R M : Type 0} {r : Result R Refusal} {s : M} (n : ℕ) (m : M) (i : ℕ) {y : Result R Refusal × M} → i < n → Exactly r s y → Exactly r s (if_worker n m i y)
@@ -48,22 +42,6 @@ module _ {K E T M : Type 0} (qs : List (Seat K E T)) (n : ℕ) (m m' : M) (P : M
       go : i < n → (r : Result (Reply E) Refusal) → P (taken_or qs n m m' r).1
       go l (Ok r) = then l
       go l (Err x) = was
-
--- a Seat that no question refuses, and one that the last refuses
-module _ {K E T M : Type 0} (qs : List (Seat K E T)) (n : ℕ) (m m' : M) (i g : ℕ) (known : Bool)
-    (there : i < n) (idle : is_empty (seat_at qs i) ≡ true) (knows : known ≡ true) where
-  seat_asked_last : seat_asked qs n m i g known m' ≡ cond (ltb g most_seatings) (Ok tt, m') (refused m 5 NoSeatingsLeft refl refl)
-  seat_asked_last = cond-true _ _ _ (lt-ltb i n there) ∙ cond-true _ _ _ idle ∙ cond-true _ _ _ knows
-
-  pub seat_last : ltb g most_seatings ≡ false → seat_asked qs n m i g known m' ≡ (Err (refusal Piece 5 NoSeatingsLeft refl refl), m)
-  seat_last none = seat_asked_last ∙ cond-false _ _ _ none
-
-  pub seat_done : g < most_seatings → seat_asked qs n m i g known m' ≡ (Ok tt, m')
-  seat_done more = seat_asked_last ∙ cond-true _ _ _ (lt-ltb g most_seatings more)
-
--- what a call does exactly is what it means
-pub through : {R M V : Type 0} (view : M → V) {r : R} {m : M} {y : R × M} {z : R × V} → Exactly r m y → ◌≡◌ {A = R × V} (y.0, view y.1) z → Exactly r (view m) z
-through view o e = record { answer = o.answer ∙ ap (λ p. p.0) e; left = ap view o.left ∙ ap (λ p. p.1) e }
 
 module _ {E C M : Type 0} (view : M → PieceView E C) (m : M) (i n : ℕ) (size : workers_of (view m) ≡ n) where
   abbrev nobody : Refusal

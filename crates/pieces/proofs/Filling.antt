@@ -1,15 +1,8 @@
 -- Writing a strip anew, place by place.
-use Rattle.std.proofs.Common.{◌≡◌, ℕ, ◌+◌, ◌<◌, ◌≤◌, List, [], ◌∷◌, ◌++◌, length, get_or, take, drop, set, replicate, sym, refl, ap, subst, ◌∙◌, arith}
-use Rattle.std.proofs.lemmas.List.{drop_more, set_at, length-replicate, length-append, length-drop, append_assoc, replicate_more, take_at, get_or_append_left, get_or-replicate}
+use Rattle.std.proofs.Common.{◌≡◌, ℕ, ◌<◌, ◌≤◌, List, [], ◌∷◌, length, get_or, take, drop, replicate, refl, subst, ◌∙◌, arith}
+use Rattle.std.proofs.lemmas.List.{length-replicate, length-append, length-drop, take_at, get_or_append_left, get_or-replicate}
 use Rattle.std.specs.List.{FoldsTo}
 use Rattle.pieces.specs.TrayCalls.{filled}
-
-pub filled_more : {A : Type 0} (xs : List A) (i : ℕ) (a : A) → i < length xs → set (filled i a xs) i a ≡ filled (i + 1) a xs
-filled_more xs i a l =
-    ap (λ z. set (replicate i a ++ z) i a) (drop_more xs i a l)
-    ∙ set_at (replicate i a) (get_or xs i a) (drop (i + 1) xs) a i (length-replicate i a)
-    ∙ sym (append_assoc (replicate i a) (a ∷ []) (drop (i + 1) xs))
-    ∙ ap (λ z. z ++ drop (i + 1) xs) (replicate_more i a)
 
 pub take_filled : {A : Type 0} (n : ℕ) (a : A) (xs : List A) → take n (filled n a xs) ≡ replicate n a
 take_filled n a xs = take_at (replicate n a) (drop n xs) n (length-replicate n a)

@@ -18,7 +18,7 @@ use Rattle.pieces.specs.TraySound.{HeadTrue, TryTrue, ReadTrue, WriteTrue, NextT
 use Rattle.pieces.proofs.Ticks.{goes}
 
 -- in one way: the bounds
-seat_ok_one : (k p g : ℕ) {E : Type 0} (q : TraySeat E) → IsProp (SeatOk k p g q)
+pub seat_ok_one : (k p g : ℕ) {E : Type 0} (q : TraySeat E) → IsProp (SeatOk k p g q)
 seat_ok_one k p g Empty = hlevel props
 seat_ok_one k p g (Loaded c) = hlevel props
 seat_ok_one k p g (Running (HeadRead t)) = hlevel props

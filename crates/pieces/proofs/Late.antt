@@ -1,11 +1,11 @@
 -- No late write: what a write to a cell, and what a move of the head, leave true of every seat.
-use Rattle.std.proofs.Common.{◌≡◌, ℕ, ◌<◌, Bool, true, false, cond, eqb, List, length, set, ℤ, pos, ◌+ℤ◌, ◌≤ℤ◌, sym, refl, ap, ◌∙◌, subst, inl, inr, arith}
+use Rattle.std.proofs.Common.{◌≡◌, ℕ, ◌<◌, Bool, true, false, cond, List, length, set, pos, ◌+ℤ◌, ◌≤ℤ◌, sym, refl, ap, ◌∙◌, subst, inl, inr, arith}
 use Rattle.std.proofs.lemmas.Int.{ints}
 use Rattle.std.proofs.lemmas.List.{get_or-set_same, get_or-set_other}
-use Rattle.std.proofs.lemmas.Bool.{eqb-true, cases_Bool, cases_eq, both_ways, and_parts}
+use Rattle.std.proofs.lemmas.Bool.{cases_Bool, cases_eq, both_ways}
+use Rattle.std.proofs.lemmas.Bool.Decides.{Decides-eqb, Decides-and}
 use Rattle.elements.specs.Kinds.{ElementKind}
-use Rattle.pieces.specs.Ticks.{tick_eq}
-use Rattle.pieces.proofs.TickLaws.{tick_eq_true}
+use Rattle.pieces.proofs.TickLaws.{Decides-tick_eq}
 use Rattle.pieces.specs.declared.tray.records.Cell.{Cell}
 use Rattle.pieces.specs.declared.tray.records.Head.{Head}
 use Rattle.pieces.specs.declared.tray.records.Try.{Try}
@@ -20,28 +20,9 @@ use Rattle.pieces.specs.TrayBounds.{SeatOk}
 use Rattle.pieces.specs.TraySound.{TryTrue, SeatTrue}
 use Rattle.pieces.proofs.Ticks.{goes}
 
--- ticks in order
-pub le_same : (a b : ℤ) → a ≡ b → a ≤ℤ b
-le_same a b e = omega (arith, ints)
-
-pub le_trans : (a b c : ℤ) → a ≤ℤ b → b ≤ℤ c → a ≤ℤ c
-le_trans a b c h k = omega (arith, ints)
-
-le_up : (a b c : ℤ) → a ≤ℤ (b +ℤ pos 1) → b ≤ℤ c → a ≤ℤ (c +ℤ pos 1)
-le_up a b c h k = omega (arith, ints)
-
-le_next : (a b : ℤ) → (a +ℤ pos 1) ≡ b → a ≤ℤ b
-le_next a b e = omega (arith, ints)
-
--- nothing is at or below a tick and yet one above it
-pub not_over : (a b : ℤ) → a ≤ℤ b → (b +ℤ pos 1) ≡ a → ⊥
-not_over a b h e = omega (arith, ints)
-
-pub agree_index : {E : Type 0} (h : Head E) (t : Try E) → agrees h t ≡ true → h.index ≡ t.head.index
-agree_index h t e = eqb-true h.index t.head.index (and_parts (eqb h.index t.head.index) (tick_eq h.tick t.head.tick) e).0
-
-pub agree_tick : {E : Type 0} (h : Head E) (t : Try E) → agrees h t ≡ true → h.tick ≡ t.head.tick
-agree_tick h t e = tick_eq_true h.tick t.head.tick (and_parts (eqb h.index t.head.index) (tick_eq h.tick t.head.tick) e).1
+-- a head that agrees with a try has the index and the tick that it saw
+pub agree : {E : Type 0} (h : Head E) (t : Try E) → agrees h t ≡ true → (h.index ≡ t.head.index) × (h.tick ≡ t.head.tick)
+agree h t = (Decides-and _ _ (Decides-eqb _ _) (Decides-tick_eq _ _)).0
 
 module _ {E : Type 0} (blank : E) (cs : List (Cell E)) (x : ℕ) (c : Cell E) where
   pub cell_same : x < length cs → cell_at blank (set cs x c) x ≡ c
@@ -54,8 +35,8 @@ module _ {E : Type 0} (blank : E) (cs : List (Cell E)) (x : ℕ) (c : Cell E) wh
   pub tick_grows : x < length cs → ((cell_at blank cs x).tick +ℤ pos 1) ≡ c.tick → (y : ℕ) → (cell_at blank cs y).tick ≤ℤ (cell_at blank (set cs x c) y).tick
   tick_grows l e y = elim (cases_eq y x) [
     | inl p ↦ subst (λ z. (cell_at blank cs z).tick ≤ℤ (cell_at blank (set cs x c) z).tick) (sym p)
-        (subst (λ r. (cell_at blank cs x).tick ≤ℤ r.tick) (sym (cell_same l)) (le_next _ _ e))
-    | inr n ↦ subst (λ r. (cell_at blank cs y).tick ≤ℤ r.tick) (sym (cell_other y n)) (le_same _ _ refl)
+        (omega (arith, ints, ap (λ (r : Cell E). r.tick) (cell_same l)))
+    | inr n ↦ omega (arith, ints, ap (λ (r : Cell E). r.tick) (cell_other y n))
   ]
 
 -- a try that the head agrees with writes what the head holds into the head's cell, which is one tick behind
@@ -73,17 +54,16 @@ module _ {E : Type 0} (blank : E) (k p g : ℕ) (cs : List (Cell E)) (h : Head E
   pub write_try : (t' : Try E) → TryTrue (cell_at blank cs t'.head.index) h t' → TryTrue (cell_at blank cs' t'.head.index) h t'
   write_try t' o =
       record {
-        behind = le_up _ _ _ o.behind (up t'.head.index);
+        behind = omega (arith, ints, o.behind, up t'.head.index);
         stands = o.stands;
-        past = λ n. le_trans _ _ _ (o.past n) (up t'.head.index);
+        past = λ n. omega (arith, ints, o.past n, up t'.head.index);
       }
 
   -- no try waits for the tick after the one that was written
   no_later : (t' : Try E) → TryTrue (cell_at blank cs t'.head.index) h t' → t'.head.index ≡ t.head.index → (t.head.tick +ℤ pos 1) ≡ t'.head.tick → ⊥
   no_later t' o i q = elim (cases_Bool (agrees h t')) [
-    | inl y ↦ not_over t'.head.tick t.head.tick (le_same _ _ (sym (agree_tick h t' y) ∙ agree_tick h t a)) q
-    | inr n ↦ not_over t'.head.tick t.head.tick
-        (le_trans _ _ _ (subst (λ z. t'.head.tick ≤ℤ (cell_at blank cs z).tick) i (o.past n)) (le_next _ _ e)) q
+    | inl y ↦ omega (arith, ints, (agree h t' y).1, (agree h t a).1)
+    | inr n ↦ omega (arith, ints, subst (λ z. t'.head.tick ≤ℤ (cell_at blank cs z).tick) i (o.past n))
   ]
 
   pub write_keeps : (q : TraySeat E) → SeatOk k p g q → SeatTrue blank cs h q → SeatTrue blank cs' h q
@@ -100,12 +80,12 @@ module _ {E : Type 0} (blank : E) (k p g : ℕ) (cs : List (Cell E)) (h : Head E
           ap (λ r. r.element) s ∙ o.1 (subst (λ r. (r.tick +ℤ pos 1) ≡ t'.head.tick) s f)
     ],
   )
-  write_keeps (Running (CellWritten t')) b o = (write_try t' o.0, le_trans _ _ _ o.1 (up t'.head.index))
+  write_keeps (Running (CellWritten t')) b o = (write_try t' o.0, omega (arith, ints, o.1, up t'.head.index))
   write_keeps (Running (NeighbourRead t' x)) b o = (
     write_try t' o.0,
-    le_trans _ _ _ o.1 (up t'.head.index),
+    omega (arith, ints, o.1, up t'.head.index),
     λ y.
-        let i : t'.head.index ≡ t.head.index = sym (agree_index h t' y) ∙ agree_index h t a in
+        let i : t'.head.index ≡ t.head.index = sym (agree h t' y).0 ∙ (agree h t a).0 in
         let s = cell_other blank cs t.head.index cell (neighbour t') (λ w. (goes k t' b.0.index b.1).1 (w ∙ sym i)) in
         let m = o.2 y in
         record {
@@ -123,12 +103,15 @@ module _ {E : Type 0} (e : ElementKind E) (cs : List (Cell E)) (h : Head E) (t :
 
   all_past : (t' : Try E) → TryTrue (cell_at e.blank cs t'.head.index) h t' → t'.head.tick ≤ℤ (cell_at e.blank cs t'.head.index).tick
   all_past t' o' = elim (cases_Bool (agrees h t')) [
-    | inl y ↦ over (sym (agree_index h t a) ∙ agree_index h t' y) (sym (agree_tick h t a) ∙ agree_tick h t' y)
+    | inl y ↦ omega (
+      arith,
+      ints,
+      subst (λ z. t.head.tick ≤ℤ (cell_at e.blank cs z).tick) (sym (agree h t a).0 ∙ (agree h t' y).0) o.1,
+      (agree h t a).1,
+      (agree h t' y).1,
+    )
     | inr m ↦ o'.past m
   ]
-    where
-      over : t.head.index ≡ t'.head.index → t.head.tick ≡ t'.head.tick → t'.head.tick ≤ℤ (cell_at e.blank cs t'.head.index).tick
-      over i q = subst (λ z. t'.head.tick ≤ℤ (cell_at e.blank cs z).tick) i (subst (λ z. z ≤ℤ (cell_at e.blank cs t.head.index).tick) q o.1)
 
   -- the pair of index and tick in the head never comes back: no try has seen the new one
   pub never_seen : (t' : Try E) → TryTrue (cell_at e.blank cs t'.head.index) h t' → agrees h' t' ≡ false
@@ -136,9 +119,9 @@ module _ {E : Type 0} (e : ElementKind E) (cs : List (Cell E)) (h : Head E) (t :
     where
       go : (y : Bool) → agrees h' t' ≡ y → y ≡ false
       go true y =
-          let i : neighbour t ≡ t'.head.index = agree_index h' t' y in
+          let i : neighbour t ≡ t'.head.index = (agree h' t' y).0 in
           let m : x.tick ≡ (cell_at e.blank cs t'.head.index).tick = (o.2 a).tick ∙ ap (λ z. (cell_at e.blank cs z).tick) i in
-          absurd (not_over t'.head.tick x.tick (subst (λ z. t'.head.tick ≤ℤ z) (sym m) (all_past t' o')) (agree_tick h' t' y))
+          absurd (omega (arith, ints, all_past t' o', (agree h' t' y).1))
       go false y = refl
 
   pub move_try : (t' : Try E) → TryTrue (cell_at e.blank cs t'.head.index) h t' → TryTrue (cell_at e.blank cs t'.head.index) h' t'

@@ -16,3 +16,4 @@ pub mod Soundness
 mod Meaning
 mod Sameness
 pub mod Returning
+mod Kept

@@ -6,7 +6,7 @@ use Rattle.std.proofs.lemmas.Bool.{cases_Bool, both_ways, lt-ltb, cond-true, and
 use Rattle.elements.specs.declared.element.Element.{Ghosts}
 use Rattle.elements.specs.Codes.{is_change}
 use Rattle.elements.specs.Kinds.{ElementKind}
-use Rattle.elements.specs.Refusals.{one_of, refusal}
+use Rattle.elements.specs.Refusals.{refusal}
 use Rattle.elements.specs.declared.commands.Command.{Command}
 use Rattle.elements.specs.declared.commands.Reply.{Reply}
 use Rattle.elements.specs.declared.answers.StepAnswer.{StepAnswer}
@@ -41,7 +41,7 @@ use Rattle.pieces.specs.TrayMeaning.{tray_names, try_view, seat_view, tray_view,
 use Rattle.pieces.proofs.Filling.{take_filled}
 use Rattle.pieces.proofs.Bounds.{held}
 use Rattle.pieces.proofs.Ordinaries.{object_law, tray_law}
-use Rattle.pieces.proofs.Late.{agree_index, agree_tick, never_seen}
+use Rattle.pieces.proofs.Late.{agree, never_seen}
 use Rattle.pieces.proofs.Stack.{length_stack, stack_set, limit_look, limit_no_change, done_change, moved_stack}
 use Rattle.pieces.proofs.Soundness.{agrees_now, helps_now, seat_sound, step_sound, take_sound, clear_sound}
 
@@ -77,7 +77,7 @@ module _ {E : Type 0} (e : ElementKind E) (s : TrayState E) (o : Sound e.blank s
 
   module _ (i : ℕ) (l : i < s.count) where
     bounds : Held e.blank s (all_unsettled s.room (take s.count s.seats))
-    bounds = held e.blank s o.bounded i l
+    bounds = held e s o.bounded i l
 
     agreement : Consistent e.blank s
     agreement = o.consistent (omega arith)
@@ -152,7 +152,7 @@ module _ {E : Type 0} (e : ElementKind E) (s : TrayState E) (o : Sound e.blank s
             let a = (helps_now e (cell_at e.blank s.cells t.head.index) h t u p.0 w).0 in
             ap (λ xs. cond (ltb 0 s.count) xs [])
             (subst (λ z. stack e.blank (set s.cells t.head.index (record { element = t.head.element; tick = t.head.tick })) z h.element ≡ stack e.blank s.cells z h.element)
-            (sym (agree_index h t a)) (stack_set e.blank s.cells t.head.index (record { element = t.head.element; tick = t.head.tick }) h.element))
+            (sym (agree h t a).0) (stack_set e.blank s.cells t.head.index (record { element = t.head.element; tick = t.head.tick }) h.element))
         go false w = refl
 
     at_cell_read : (t : Try E) (u : E) → seat_at s.seats i ≡ Running (CellRead t u) → SeatTrue e.blank s.cells h (Running (CellRead t u)) → (y : Bool) → settled_early s.room t ≡ y
@@ -177,10 +177,10 @@ module _ {E : Type 0} (e : ElementKind E) (s : TrayState E) (o : Sound e.blank s
       -- the top lies in its cell
       written : (cell_at e.blank s.cells t.head.index).element ≡ t.head.element
       written =
-          let f = agree_index h t a in
+          let f = (agree h t a).0 in
           subst (λ z. (cell_at e.blank s.cells z).element ≡ h.element) f
           (agreement.head_true.written (between agreement.head_true.ahead (subst (λ z. h.tick ≤ℤ (cell_at e.blank s.cells z).tick) (sym f)
-          (subst (λ z. z ≤ℤ (cell_at e.blank s.cells t.head.index).tick) (sym (agree_tick h t a)) p.1))))
+          (subst (λ z. z ≤ℤ (cell_at e.blank s.cells t.head.index).tick) (sym (agree h t a).1) p.1))))
           ∙ p.0.stands a
         where
           between : {m n : ℤ} → m ≤ℤ n → n ≤ℤ m → m ≡ n
@@ -190,7 +190,7 @@ module _ {E : Type 0} (e : ElementKind E) (s : TrayState E) (o : Sound e.blank s
       ordinary_is : ordinary_tray e.blank s.room v.content (command_of t.command) ≡ (stack e.blank s.cells (neighbour t) x.element, done_reply e t)
       ordinary_is =
           ap (λ xs. ordinary_tray e.blank s.room xs (command_of t.command))
-          (content_is s.cells h ∙ ap (λ z. stack e.blank s.cells z h.element) (agree_index h t a) ∙ ap (stack e.blank s.cells t.head.index) (p.0.stands a))
+          (content_is s.cells h ∙ ap (λ z. stack e.blank s.cells z h.element) (agree h t a).0 ∙ ap (stack e.blank s.cells t.head.index) (p.0.stands a))
           ∙ moved_stack e s.room s.cells t x.element ok written (p.2 a).element
 
       -- every other try that has not settled is disturbed
@@ -276,10 +276,6 @@ module _ {E : Type 0} (e : ElementKind E) (s : TrayState E) (o : Sound e.blank s
       step_by_worker (tray_view e) s i s.count size N (accessed e s i (seat_at s.seats i))
       (λ l. at_seat i l same (seat_at s.seats i) refl ((bounds i l).seats_ok i l) ((agreement i l).seats_true i l))
 
-  -- what is known is what is named
-  knows_named : (n : ℕ) → tray_knows n ≡ one_of tray_kinds n
-  knows_named n = grind arith
-
   -- a seat means what it is, to those who would seat a command there or take from it
   shown_empty : (q : TraySeat E) → is_empty_view (seat_view e s.room h q) ≡ is_empty q
   shown_empty Empty = refl
@@ -301,7 +297,7 @@ module _ {E : Type 0} (e : ElementKind E) (s : TrayState E) (o : Sound e.blank s
   -- Seat
   pub seat_meant : (i : ℕ) (d : Command E) → seen e (seat_outcome s i d) ≡ seated N v i d
   seat_meant i d =
-      seat_within (tray_view e) s i s.count size N d (loaded_tray s i d) s.seats (tray_knows d.kind) (knows_named d.kind)
+      seat_within (tray_view e) s i s.count size N d (loaded_tray s i d) s.seats (tray_knows d.kind) refl
       (λ l. ap is_empty_view (seat_is i l (seat_at s.seats i) refl) ∙ shown_empty (seat_at s.seats i))
       (λ k j. record {
         content = v.content;
@@ -348,8 +344,8 @@ module _ {E : Type 0} (e : ElementKind E) (same : (x : E) → e.same x x ≡ tru
         step_meant = step_meant e s o same;
         take_meant = take_meant e s o;
         clear_meant = clear_meant e s o;
-        seat_same = λ i d. unchanged_names _ (seat_sound e same s o i d) (grind arith);
-        step_same = λ i. unchanged_names _ (step_sound e same s o i) (grind arith);
-        take_same = λ i. unchanged_names _ (take_sound e same s o i) (grind arith);
+        seat_same = λ i d. unchanged_names _ (seat_sound e s o i d) (grind arith);
+        step_same = λ i. unchanged_names _ (step_sound e s o i same) (grind arith);
+        take_same = λ i. unchanged_names _ (take_sound e s o i) (grind arith);
         clear_same = unchanged_names _ (clear_sound e s o) (refl, refl);
       }

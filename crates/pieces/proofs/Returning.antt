@@ -1,5 +1,6 @@
 -- Nothing comes back: the head never has a pair of index and tick again that it has left, and the ticks of cells only grow.
 use Rattle.std.proofs.Common.{◌≡◌, ℕ, ◌<◌, Bool, true, false, cond, ltb, length, take, set, ◌≤ℤ◌, sym, refl, subst, arith}
+use Rattle.std.proofs.lemmas.Int.{ints}
 use Rattle.std.proofs.lemmas.List.{get_or-set_same}
 use Rattle.std.proofs.lemmas.Bool.{ltb-true, both_ways, and_parts}
 use Rattle.elements.specs.Kinds.{ElementKind}
@@ -17,7 +18,7 @@ use Rattle.pieces.specs.TrayCalls.{step_outcome}
 use Rattle.pieces.specs.TrayBounds.{all_unsettled, SeatOk}
 use Rattle.pieces.specs.TraySound.{TryTrue, SeatTrue, Sound}
 use Rattle.pieces.proofs.Bounds.{held}
-use Rattle.pieces.proofs.Late.{le_same, le_trans, tick_grows, write_try, never_seen, move_try}
+use Rattle.pieces.proofs.Late.{tick_grows, write_try, never_seen, move_try}
 use Rattle.pieces.proofs.Soundness.{agrees_now, helps_now}
 
 module _ {E : Type 0} (e : ElementKind E) where
@@ -36,14 +37,14 @@ module _ {E : Type 0} (e : ElementKind E) where
   later_quiet s z cells heads =
       subst (λ cs. Later s (record { cells = cs; heads = z.heads; seats = z.seats; seatings = z.seatings; room = z.room; count = z.count })) (sym cells)
       (subst (λ hs. Later s (record { cells = s.cells; heads = hs; seats = z.seats; seatings = z.seatings; room = z.room; count = z.count })) (sym heads)
-      (record { seen = λ _ r. r; gone = λ _ _ n. n; grown = λ x. le_same _ _ refl }))
+      (record { seen = λ _ r. r; gone = λ _ _ n. n; grown = λ x. omega (arith, ints) }))
 
   pub later_still : (s z y : TrayState E) → Later s z → Later z y → Later s y
   later_still s z y a b =
       record {
         seen = λ t p. b.seen t (a.seen t p);
         gone = λ t p n. b.gone t (a.seen t p) (a.gone t p n);
-        grown = λ x. le_trans _ _ _ (a.grown x) (b.grown x);
+        grown = λ x. omega (arith, ints, a.grown x, b.grown x);
       }
 
   module _ (s : TrayState E) (o : Sound e.blank s) where
@@ -69,7 +70,7 @@ module _ {E : Type 0} (e : ElementKind E) where
           → Later s (with_seat (with_cells s (cond w (set s.cells t.head.index (record { element = t.head.element; tick = t.head.tick })) s.cells)) i q)
       written t u ok p q true w =
           let k = helps_now e (cell_at e.blank s.cells t.head.index) h t u p.0 w in
-          let within : t.head.index < length s.cells = omega (arith, (held e.blank s o.bounded i l).cells_long, ok.index) in
+          let within : t.head.index < length s.cells = omega (arith, (held e s o.bounded i l).cells_long, ok.index) in
           record {
             seen = write_try e.blank s.room unsettled s.seatings s.cells h t within k.0 k.1;
             gone = λ _ _ n. n;
@@ -82,11 +83,11 @@ module _ {E : Type 0} (e : ElementKind E) where
           → Later s (with_seat (with_head s (moved_head e t x)) i q)
       moved t x p q a =
           let top : moved_head e t x ≡ head_of e.blank (set s.heads 0 (moved_head e t x)) =
-          sym (get_or-set_same s.heads 0 (moved_head e t x) _ (held e.blank s o.bounded i l).heads_long) in
+          sym (get_or-set_same s.heads 0 (moved_head e t x) _ (held e s o.bounded i l).heads_long) in
           record {
             seen = λ t' r. subst (λ z. TryTrue (cell_at e.blank s.cells t'.head.index) z t') top (move_try e s.cells h t x a p t' r);
             gone = λ t' r _. subst (λ z. agrees z t' ≡ false) top (never_seen e s.cells h t x a p t' r);
-            grown = λ y. le_same _ _ refl;
+            grown = λ y. omega (arith, ints);
           }
 
       access_later : (q : TraySeat E) → SeatOk s.room unsettled s.seatings q → SeatTrue e.blank s.cells h q → Later s (accessed e s i q).1
@@ -104,5 +105,5 @@ module _ {E : Type 0} (e : ElementKind E) where
     step_later i =
         by_test (Later s) (ltb i s.count) _ _
         (λ f. let l : i < s.count = ltb-true i s.count f in
-        access_later i l (seat_at s.seats i) ((held e.blank s o.bounded i l).seats_ok i l) ((o.consistent (omega arith)).seats_true i l))
+        access_later i l (seat_at s.seats i) ((held e s o.bounded i l).seats_ok i l) ((o.consistent (omega arith)).seats_true i l))
         (λ _. later_quiet s s refl refl)

@@ -1,5 +1,6 @@
 -- Which elements are the same never decides: where indices and ticks agree, the elements that an access compares are equal.
 use Rattle.std.proofs.Common.{◌≡◌, ℕ, ◌<◌, Bool, true, false, cond, ◌&&◌, ltb, set, pos, ◌-ℤ◌, Ok, Result, sym, refl, ap, ◌∙◌, arith}
+use Rattle.std.proofs.lemmas.Int.{ints}
 use Rattle.std.proofs.lemmas.Bool.{ltb-true, cond-false}
 use Rattle.elements.specs.Kinds.{ElementKind, uncompared}
 use Rattle.elements.specs.declared.answers.StepAnswer.{StepAnswer}
@@ -7,7 +8,7 @@ use Rattle.elements.specs.declared.answers.StepAnswer.TheVariants.{Moved, Ended 
 use Rattle.elements.specs.declared.refusals.Refusal.{Refusal}
 use Rattle.pieces.specs.Outcomes.{if_worker}
 use Rattle.pieces.specs.Ticks.{tick_eq}
-use Rattle.pieces.proofs.TickLaws.{tick_eq_true}
+use Rattle.pieces.proofs.TickLaws.{Decides-tick_eq}
 use Rattle.pieces.specs.declared.tray.records.Cell.{Cell}
 use Rattle.pieces.specs.declared.tray.records.Head.{Head}
 use Rattle.pieces.specs.declared.tray.records.Try.{Try}
@@ -19,7 +20,7 @@ use Rattle.pieces.specs.TrayStates.{TrayState, cell_at, head_of, with_cells, wit
 use Rattle.pieces.specs.TrayAccess.{settled_early, agrees, helps, unchanged, moved_head, limit_reply, done_reply, accessed}
 use Rattle.pieces.specs.TrayCalls.{step_outcome}
 use Rattle.pieces.specs.TraySound.{TryTrue, ReadTrue, SeatTrue, Sound}
-use Rattle.pieces.proofs.Soundness.{behind_by_one, helps_if_behind}
+use Rattle.pieces.proofs.Soundness.{helps_if_behind}
 
 module _ {E : Type 0} (e : ElementKind E) (same : (x : E) → e.same x x ≡ true) where
   -- access 3 writes exactly where the cell is one tick behind
@@ -27,7 +28,7 @@ module _ {E : Type 0} (e : ElementKind E) (same : (x : E) → e.same x x ≡ tru
   helps_by_tick c h t u o r = go (tick_eq c.tick (t.head.tick -ℤ pos 1)) refl
     where
       go : (y : Bool) → tick_eq c.tick (t.head.tick -ℤ pos 1) ≡ y → helps e c t u ≡ helps (uncompared e.blank) c t u
-      go true y = helps_if_behind e c h t u o same r (behind_by_one _ _ (tick_eq_true _ _ y)) ∙ sym (ap (λ z. z && true) y)
+      go true y = helps_if_behind e c h t u o same r (omega (arith, ints, (Decides-tick_eq c.tick (t.head.tick -ℤ pos 1)).0 y)) ∙ sym (ap (λ z. z && true) y)
       go false y = ap (λ z. z && e.same c.element u) y ∙ sym (ap (λ z. z && true) y)
 
   -- access 5 moves the head exactly where it has the index and the tick that the try saw

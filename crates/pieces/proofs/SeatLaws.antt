@@ -1,16 +1,14 @@
 -- A piece keeps its workers' seats in a list, of which the first n are in use; f reads off what each of them means.
-use Rattle.std.proofs.Common.{◌≡◌, ℕ, zero, suc, ◌+◌, ◌<◌, ◌≤◌, Bool, true, false, cond, ltb, Ok, Err, Result, List, [], ◌∷◌, map, length, get_or, take, set, replicate, sum_by, sym, refl, ap, ◌∙◌, subst, suc-le-suc, zero-le, arith}
+use Rattle.std.proofs.Common.{◌≡◌, ℕ, zero, suc, ◌+◌, ◌<◌, ◌≤◌, Bool, true, false, cond, ltb, Ok, Err, List, [], ◌∷◌, map, length, get_or, take, set, replicate, sum_by, sym, refl, ap, ◌∙◌, suc-le-suc, zero-le, arith}
 use Rattle.std.proofs.lemmas.List.{length-map, length-take-le, get_or-map, get_or-take, map-set}
-use Rattle.std.proofs.lemmas.List.Sums.{sum_by-set, sum_by-cons}
+use Rattle.std.proofs.lemmas.List.Sums.{sum_by-set}
 use Rattle.std.proofs.lemmas.Bool.{ltb-true, cond-false}
 use Rattle.elements.specs.Refusals.{refusal}
-use Rattle.elements.specs.declared.refusals.Refusal.{Refusal}
-use Rattle.pieces.specs.Calls.{most_seatings}
-use Rattle.elements.specs.declared.refusals.Cause.TheVariants.{NoSuchWorker, NoSeatingsLeft}
+use Rattle.elements.specs.declared.refusals.Cause.TheVariants.{NoSuchWorker}
 use Rattle.elements.specs.declared.refusals.Layer.TheVariants.{Piece}
 use Rattle.pieces.specs.declared.seats.Seat.{Seat}
 use Rattle.pieces.specs.declared.seats.Seat.TheVariants.{Empty}
-use Rattle.pieces.specs.Seats.{seat_at, is_empty, occupant, idle, once_more}
+use Rattle.pieces.specs.Seats.{occupant}
 use Rattle.pieces.specs.Views.{SeatView, empty}
 
 pub take_of_set : {A : Type 0} (n : ℕ) (xs : List A) (i : ℕ) (a : A) → take n (set xs i a) ≡ set (take n xs) i a
@@ -33,10 +31,6 @@ map_replicate f a c e [] = refl
 map_replicate f a c e (x ∷ xs) =
     let rest : map f (replicate (length xs) a) ≡ map (λ _. c) xs = map_replicate f a c e xs in
     cc
-
-pub sum_replicate : {A : Type 0} (w : A → ℕ) (a : A) → w a ≡ 0 → (n : ℕ) → sum_by w (replicate n a) ≡ 0
-sum_replicate w a e zero = refl
-sum_replicate w a e (suc n) = omega (arith, sum_by-cons w a (replicate n a), sum_replicate w a e n)
 
 module _ {Q E : Type 0} (f : Q → SeatView E) (n : ℕ) (d : Q) (qs : List Q) (long : n ≤ length qs) where
   pub count_views : length (map f (take n qs)) ≡ n
@@ -73,49 +67,6 @@ occupant_in n qs long i =
     by_cases : (b : Bool) → ltb i n ≡ b → occupant n (take n qs) i ≡ occupant n qs i
     by_cases true l = ap (λ q. cond (ltb i n) (Ok q) (Err (refusal Piece 1 NoSuchWorker refl refl))) (get_or-take n qs i Empty (ltb-true i n l))
     by_cases false l = cond-false (ltb i n) _ _ l ∙ sym (cond-false (ltb i n) _ _ l)
-
--- what a test has answered, that gives or refuses
-pub by_gift : {A : Type 0} (b : Bool) (a a' : A) (x : Refusal) → ◌≡◌ {A = Result A Refusal} (Ok a) (cond b (Ok a') (Err x)) → (b ≡ true) × (a ≡ a')
-by_gift {A} true a a' x e = (refl, ap given e)
-  where
-    given : Result A Refusal → A
-    given (Ok y) = y
-    given (Err y) = a
-by_gift {A} false a a' x e = absurd (subst Given e tt)
-  where
-    Given : Result A Refusal → Type 0
-    Given (Ok y) = Unit {0}
-    Given (Err y) = ⊥
-
--- and one that refuses
-by_refusal : {A : Type 0} (b : Bool) (a : A) (x y : Refusal) → ◌≡◌ {A = Result A Refusal} (Err x) (cond b (Ok a) (Err y)) → (b ≡ false) × (x ≡ y)
-by_refusal {A} true a x y e = absurd (subst Given e tt)
-  where
-    Given : Result A Refusal → Type 0
-    Given (Ok z) = ⊥
-    Given (Err z) = Unit {0}
-by_refusal {A} false a x y e = (refl, ap given e)
-  where
-    given : Result A Refusal → Refusal
-    given (Ok z) = x
-    given (Err z) = z
-
--- where a worker has a seat, there is such a worker
-pub occupant_there : {K E T : Type 0} (n : ℕ) (qs : List (Seat K E T)) (i : ℕ) (q : Seat K E T)
-    → ◌≡◌ {A = Result (Seat K E T) Refusal} (Ok q) (occupant n qs i) → (i < n) × (q ≡ seat_at qs i)
-occupant_there n qs i q e = let o = by_gift (ltb i n) q (seat_at qs i) _ e in (ltb-true i n o.0, o.1)
-
--- where a seat is idle, it is empty
-pub idle_there : {K E T : Type 0} (q : Seat K E T) (u : Unit {0}) → ◌≡◌ {A = Result (Unit {0}) Refusal} (Ok u) (idle q) → is_empty q ≡ true
-idle_there q u e = (by_gift (is_empty q) u tt _ e).0
-
--- where there is one seating more, there were some left
-pub more_there : (g g' : ℕ) → ◌≡◌ {A = Result ℕ Refusal} (Ok g') (once_more g) → (g < most_seatings) × (g' ≡ g + 1)
-more_there g g' e = let o = by_gift (ltb g most_seatings) g' (g + 1) _ e in (ltb-true g most_seatings o.0, o.1)
-
--- where there is none more, none were left
-pub none_more : (g : ℕ) (x : Refusal) → ◌≡◌ {A = Result ℕ Refusal} (Err x) (once_more g) → (ltb g most_seatings ≡ false) × (x ≡ refusal Piece 5 NoSeatingsLeft refl refl)
-none_more g x e = by_refusal (ltb g most_seatings) (g + 1) x _ e
 
 -- a number for each seat, summed over those in use: another seat of worker i changes the sum by its own
 pub sum_set : {Q : Type 0} (w : Q → ℕ) (n : ℕ) (d : Q) (qs : List Q) → n ≤ length qs → (i : ℕ) → i < n → (q : Q)

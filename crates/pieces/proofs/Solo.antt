@@ -49,13 +49,6 @@ module _ {E C : Type 0} (N : Names E C) (v : PieceView E C) (i : ℕ) (c : Comma
   Goes k (Ok StoodOff) u = ⊥
   Goes k (Err r) u = ⊥
 
-  pub starts : seat_of v i ≡ loaded c → Going 0 v
-  starts at = inl (λ j. record {
-    content = v.content;
-    seatings = v.seatings;
-    seats = sym (ap (set v.seats i) (sym at) ∙ set-get_or v.seats i empty) j;
-  })
-
   -- an access at the worker's seat of the try, as one of a try with k accesses
   left_trying : (k : ℕ) (a : StepAnswer) → left_at N v.content (trying k) a ≡ left_by N v.content c (record { accesses = k; disturbed = false; settled = None }) a
   left_trying zero a = refl
@@ -192,16 +185,7 @@ module _ {E C : Type 0} (N : Names E C) (v : PieceView E C) (i : ℕ) (c : Comma
   abbrev seated_view : PieceView E C
   seated_view = record { content = v.content; seatings = v.seatings + 1; seats = set v.seats i (loaded c) }
 
-  -- one that is not seated is refused
-  pub refused_alone : (r : Refusal) (u : PieceView E C) → Exactly (Err r) u (seated N v i c) → Exactly (Err r) u (called_alone N v i c)
-  refused_alone r u = go (seat_refusal N v i c)
-    where
-      go : (o : Option Refusal) → Exactly {R = Result (Unit {0}) Refusal} (Err r) u (unless_refused o v (tt, seated_view))
-          → Exactly {R = Result (Reply E) Refusal} (Err r) u (unless_refused o v (called_alone_view N v c))
-      go None x = let e = x.answer in let z : ◌≡◌ {A = ℕ} 0 1 = cc in absurd (omega arith)
-      go (Some f) x = let e = x.answer in record { answer = cc; left = x.left }
-
-  -- and one that is seated was not refused
+  -- one that is seated was not refused
   accepted : (u : PieceView E C) → Exactly (Ok tt) u (seated N v i c) → (seat_refusal N v i c ≡ None) × (u ≡ seated_view)
   accepted u = go (seat_refusal N v i c)
     where

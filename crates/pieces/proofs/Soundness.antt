@@ -6,9 +6,8 @@ use Rattle.std.proofs.lemmas.Bool.{cases_eq, cases_Bool, both_ways, ltb-true, eq
 use Rattle.elements.specs.Kinds.{ElementKind}
 use Rattle.elements.specs.declared.commands.Command.{Command}
 use Rattle.pieces.specs.Calls.{most_seatings}
-use Rattle.pieces.specs.Ticks.{tick_eq}
 use Rattle.pieces.proofs.CallLaws.{by_test, seat_left, take_left}
-use Rattle.pieces.proofs.TickLaws.{tick_eq_true, tick_eq_same, tick_kept}
+use Rattle.pieces.proofs.TickLaws.{Decides-tick_eq, tick_kept}
 use Rattle.pieces.proofs.Ticks.{seat_kept}
 use Rattle.pieces.specs.declared.tray.records.Cell.{Cell}
 use Rattle.pieces.specs.declared.tray.records.Head.{Head}
@@ -26,41 +25,33 @@ use Rattle.pieces.specs.TrayBounds.{all_unsettled, SeatOk, Held}
 use Rattle.pieces.specs.TraySound.{HeadTrue, TryTrue, ReadTrue, WriteTrue, SeatTrue, Consistent, Sound}
 use Rattle.pieces.proofs.Filling.{get_or_filled}
 use Rattle.pieces.proofs.Bounds.{held, access_bounded, loaded_bounded, emptied_bounded, clear_bounded}
-use Rattle.pieces.proofs.Late.{le_same, not_over, agree_index, agree_tick, cell_same, write_try, write_keeps, move_keeps}
-
--- one tick behind, said in two ways
-pub behind_by_one : (a b : ℤ) → a ≡ (b -ℤ pos 1) → (a +ℤ pos 1) ≡ b
-behind_by_one a b e = omega (arith, ints)
-
-one_less : (a b : ℤ) → (a +ℤ pos 1) ≡ b → a ≡ (b -ℤ pos 1)
-one_less a b e = omega (arith, ints)
+use Rattle.pieces.proofs.Late.{agree, cell_same, write_try, write_keeps, move_keeps}
 
 caught_up : (a b : ℤ) → a ≤ℤ (b +ℤ pos 1) → ((b +ℤ pos 1) ≡ a → ⊥) → a ≤ℤ b
 caught_up a b h n = by_lt_z b a (λ l. absurd (n (omega (arith, ints)))) (λ l. l)
 
 -- the head agrees with a try that has just seen it
 pub agrees_now : {E : Type 0} (h : Head E) (c : TrayCommand E) → agrees h (record { command = c; head = h }) ≡ true
-agrees_now h c = and_from _ _ (eq-eqb h.index h.index refl) (tick_eq_same h.tick)
+agrees_now h c = and_from _ _ (eq-eqb h.index h.index refl) ((Decides-tick_eq h.tick h.tick).1 refl)
 
 module _ {E : Type 0} (e : ElementKind E) (c : Cell E) (h : Head E) (t : Try E) (u : E) (o : TryTrue c h t) where
   -- access 3 writes only while the head stands, to a cell that is one tick behind
   pub helps_now : helps e c t u ≡ true → (agrees h t ≡ true) × ((c.tick +ℤ pos 1) ≡ t.head.tick)
   helps_now w =
       let f : (c.tick +ℤ pos 1) ≡ t.head.tick =
-      behind_by_one _ _ (tick_eq_true _ _ (and_parts (tick_eq c.tick (t.head.tick -ℤ pos 1)) _ w).0) in
-      (⊎_elim (λ y. y) (λ n. absurd (not_over _ _ (o.past n) f)) (cases_Bool (agrees h t)), f)
+      omega (arith, ints, (Decides-tick_eq c.tick (t.head.tick -ℤ pos 1)).0 (and_parts _ _ w).0) in
+      (⊎_elim (λ y. y) (λ n. absurd (omega (arith, ints, o.past n))) (cases_Bool (agrees h t)), f)
 
   -- what it compares is what it read, so a cell that is one tick behind is written
   pub helps_if_behind : ((x : E) → e.same x x ≡ true) → ReadTrue c t u → (c.tick +ℤ pos 1) ≡ t.head.tick → helps e c t u ≡ true
   helps_if_behind same r f =
-      let g : c.tick ≡ (t.head.tick -ℤ pos 1) = one_less _ _ f in
-      and_from _ _ (subst (λ z. tick_eq c.tick z ≡ true) g (tick_eq_same c.tick)) (ap (λ z. e.same z u) (r f) ∙ same u)
+      and_from _ _ ((Decides-tick_eq c.tick (t.head.tick -ℤ pos 1)).1 (omega (arith, ints))) (ap (λ z. e.same z u) (r f) ∙ same u)
 
   -- and one that is not written is no tick behind
   pub helps_not : ((x : E) → e.same x x ≡ true) → ReadTrue c t u → helps e c t u ≡ false → WriteTrue c t
   helps_not same r n = caught_up _ _ o.behind (λ f. both_ways _ n (helps_if_behind same r f))
 
-module _ {E : Type 0} (e : ElementKind E) (same : (x : E) → e.same x x ≡ true) (s : TrayState E) (o : Sound e.blank s) (i : ℕ) (l : i < s.count) where
+module _ {E : Type 0} (e : ElementKind E) (s : TrayState E) (o : Sound e.blank s) (i : ℕ) (l : i < s.count) where
   abbrev h : Head E
   h = head_of e.blank s.heads
 
@@ -68,7 +59,7 @@ module _ {E : Type 0} (e : ElementKind E) (same : (x : E) → e.same x x ≡ tru
   cell = cell_at e.blank s.cells
 
   bounds : Held e.blank s (all_unsettled s.room (take s.count s.seats))
-  bounds = held e.blank s o.bounded i l
+  bounds = held e s o.bounded i l
 
   agreement : Consistent e.blank s
   agreement = o.consistent (omega arith)
@@ -95,7 +86,7 @@ module _ {E : Type 0} (e : ElementKind E) (same : (x : E) → e.same x x ≡ tru
   quiet q g own = reseated s.cells s.heads q g agreement.head_true agreement.seats_true own
 
   -- access 3, by whether it writes, and whether the try had settled
-  helped : (t : Try E) (u : E) → SeatOk s.room (all_unsettled s.room (take s.count s.seats)) s.seatings (Running (CellRead t u))
+  helped : ((x : E) → e.same x x ≡ true) → (t : Try E) (u : E) → SeatOk s.room (all_unsettled s.room (take s.count s.seats)) s.seatings (Running (CellRead t u))
       → SeatTrue e.blank s.cells h (Running (CellRead t u)) → (w y : Bool) → helps e (cell t.head.index) t u ≡ w
       → Consistent e.blank (record {
         cells = cond w (set s.cells t.head.index (record { element = t.head.element; tick = t.head.tick })) s.cells;
@@ -105,7 +96,7 @@ module _ {E : Type 0} (e : ElementKind E) (same : (x : E) → e.same x x ≡ tru
         room = s.room;
         count = s.count;
       })
-  helped t u ok p true y w =
+  helped same t u ok p true y w =
       let k = helps_now e (cell t.head.index) h t u p.0 w in
       let within : t.head.index < length s.cells = omega (arith, bounds.cells_long, ok.index) in
       let now : Cell E = record { element = t.head.element; tick = t.head.tick } in
@@ -114,23 +105,20 @@ module _ {E : Type 0} (e : ElementKind E) (same : (x : E) → e.same x x ≡ tru
       let keeps = write_keeps e.blank s.room (all_unsettled s.room (take s.count s.seats)) s.seatings s.cells h t within k.0 k.1 in
       let try = write_try e.blank s.room (all_unsettled s.room (take s.count s.seats)) s.seatings s.cells h t within k.0 k.1 t p.0 in
       reseated cs s.heads _ s.seatings
-      (subst (λ z. HeadTrue (cell_at e.blank cs z) h) (sym (agree_index h t k.0))
+      (subst (λ z. HeadTrue (cell_at e.blank cs z) h) (sym (agree h t k.0).0)
       (subst (λ z. HeadTrue z h) (sym at) (record {
-        behind = under (agree_tick h t k.0);
-        ahead = le_same _ _ (sym (agree_tick h t k.0));
+        behind = omega (arith, ints, (agree h t k.0).1);
+        ahead = omega (arith, ints, (agree h t k.0).1);
         written = λ _. sym (p.0.stands k.0);
       })))
       (λ j m. keeps (seat_at s.seats j) (bounds.seats_ok j m) (agreement.seats_true j m))
-      (own cs y try (subst (λ z. WriteTrue z t) (sym at) (le_same _ _ refl)))
+      (own cs y try (subst (λ z. WriteTrue z t) (sym at) (omega (arith, ints))))
     where
-      under : {a d : ℤ} → a ≡ d → a ≤ℤ (d +ℤ pos 1)
-      under f = omega (arith, ints)
-
       own : (cs : List (Cell E)) (y : Bool) → TryTrue (cell_at e.blank cs t.head.index) h t → WriteTrue (cell_at e.blank cs t.head.index) t
           → SeatTrue e.blank cs h (cond y (Ended (limit_reply e t.command)) (Running (CellWritten t)))
       own cs true a d = tt
       own cs false a d = (a, d)
-  helped t u ok p false y w = quiet _ s.seatings (own y)
+  helped same t u ok p false y w = quiet _ s.seatings (own y)
     where
       own : (y : Bool) → SeatTrue e.blank s.cells h (cond y (Ended (limit_reply e t.command)) (Running (CellWritten t)))
       own true = tt
@@ -150,37 +138,28 @@ module _ {E : Type 0} (e : ElementKind E) (same : (x : E) → e.same x x ≡ tru
       let top : head_of e.blank (set s.heads 0 (moved_head e t x)) ≡ moved_head e t x = get_or-set_same s.heads 0 (moved_head e t x) _ bounds.heads_long in
       let n = (p.2 a).tick in
       reseated s.cells (set s.heads 0 (moved_head e t x)) (Ended (done_reply e t)) s.seatings
-      (subst (λ z. HeadTrue (cell z.index) z) (sym top) (record { behind = behind n; ahead = ahead n; written = λ f. absurd (no n f) }))
+      (subst (λ z. HeadTrue (cell z.index) z) (sym top) (record { behind = omega (arith, ints, n); ahead = omega (arith, ints, n); written = λ f. absurd (omega (arith, ints, n)) }))
       (λ j m. subst (λ z. SeatTrue e.blank s.cells z (seat_at s.seats j)) (sym top)
       (move_keeps e s.cells h t x a p (seat_at s.seats j) (agreement.seats_true j m)))
       tt
-    where
-      behind : {a d : ℤ} → a ≡ d → (a +ℤ pos 1) ≤ℤ (d +ℤ pos 1)
-      behind f = omega (arith, ints)
-
-      ahead : {a d : ℤ} → a ≡ d → d ≤ℤ (a +ℤ pos 1)
-      ahead f = omega (arith, ints)
-
-      no : {a d : ℤ} → a ≡ d → d ≡ (a +ℤ pos 1) → ⊥
-      no f g = omega (arith, ints)
 
   -- an access of worker i, whose seat is q
-  access_consistent : (q : TraySeat E) → SeatOk s.room (all_unsettled s.room (take s.count s.seats)) s.seatings q
+  access_consistent : ((x : E) → e.same x x ≡ true) → (q : TraySeat E) → SeatOk s.room (all_unsettled s.room (take s.count s.seats)) s.seatings q
       → SeatTrue e.blank s.cells h q → Consistent e.blank (accessed e s i q).1
-  access_consistent Empty ok p = agreement
-  access_consistent (Loaded d) ok p =
+  access_consistent same Empty ok p = agreement
+  access_consistent same (Loaded d) ok p =
       quiet _ s.seatings (record {
         behind = agreement.head_true.behind;
         stands = λ _. refl;
         past = λ n. absurd (both_ways _ n (agrees_now h d));
       })
-  access_consistent (Running (HeadRead t)) ok p = quiet _ s.seatings (p, λ _. refl)
-  access_consistent (Running (CellRead t u)) ok p = helped t u ok p (helps e (cell t.head.index) t u) (settled_early s.room t) refl
-  access_consistent (Running (CellWritten t)) ok p = quiet _ s.seatings (p.0, p.1, λ _. record { tick = refl; element = refl })
-  access_consistent (Running (NeighbourRead t x)) ok p =
+  access_consistent same (Running (HeadRead t)) ok p = quiet _ s.seatings (p, λ _. refl)
+  access_consistent same (Running (CellRead t u)) ok p = helped same t u ok p (helps e (cell t.head.index) t u) (settled_early s.room t) refl
+  access_consistent same (Running (CellWritten t)) ok p = quiet _ s.seatings (p.0, p.1, λ _. record { tick = refl; element = refl })
+  access_consistent same (Running (NeighbourRead t x)) ok p =
       by_test (Consistent e.blank) (unchanged e h t) _ _
       (λ f. moved t x p (and_parts (agrees h t) _ f).0) (λ _. quiet (Loaded t.command) s.seatings tt)
-  access_consistent (Ended r) ok p = agreement
+  access_consistent same (Ended r) ok p = agreement
 
 -- with more seatings a tray is sound still
 pub more_seatings : {E : Type 0} (blank : E) (s : TrayState E) → Sound blank s → (g : ℕ) → s.seatings ≤ g → g ≤ most_seatings
@@ -213,17 +192,17 @@ more_seatings blank s o g more few =
 workers_kept : {E : Type 0} (e : ElementKind E) (s : TrayState E) (i : ℕ) (q : TraySeat E) → (accessed e s i q).1.count ≡ s.count
 workers_kept e s i q = grind arith
 
-module _ {E : Type 0} (e : ElementKind E) (same : (x : E) → e.same x x ≡ true) (s : TrayState E) (o : Sound e.blank s) (i : ℕ) where
-  pub step_sound : Sound e.blank (step_outcome e s i).1
-  step_sound =
+module _ {E : Type 0} (e : ElementKind E) (s : TrayState E) (o : Sound e.blank s) (i : ℕ) where
+  pub step_sound : ((x : E) → e.same x x ≡ true) → Sound e.blank (step_outcome e s i).1
+  step_sound same =
       by_test (Sound e.blank) (ltb i s.count) _ _
       (λ f.
       let l : i < s.count = ltb-true i s.count f in
-      let ok = (bounds e same s o i l).seats_ok i l in
+      let ok = (bounds e s o i l).seats_ok i l in
       record {
-        bounded = access_bounded e.blank s o.bounded i l e refl (seat_at s.seats i) refl ok;
+        bounded = access_bounded e s o.bounded i l (seat_at s.seats i) refl ok;
         few_workers = omega (arith, o.few_workers, workers_kept e s i (seat_at s.seats i));
-        consistent = λ _. access_consistent e same s o i l (seat_at s.seats i) ok ((agreement e same s o i l).seats_true i l);
+        consistent = λ _. access_consistent e s o i l same (seat_at s.seats i) ok ((agreement e s o i l).seats_true i l);
       })
       (λ _. o)
 
@@ -232,18 +211,18 @@ module _ {E : Type 0} (e : ElementKind E) (same : (x : E) → e.same x x ≡ tru
       → Sound e.blank (state_of s.cells s.heads (set s.seats i (Loaded d)) (s.seatings + 1) s.room s.count)
   loaded_sound l d few =
       record {
-        bounded = loaded_bounded e.blank s o.bounded i l d few;
+        bounded = loaded_bounded e s o.bounded i l d few;
         few_workers = o.few_workers;
-        consistent = λ _. quiet e same s o i l (Loaded d) (s.seatings + 1) tt;
+        consistent = λ _. quiet e s o i l (Loaded d) (s.seatings + 1) tt;
       }
 
   -- or emptied
   pub emptied_sound : i < s.count → Sound e.blank (with_seat s i Empty)
   emptied_sound l =
       record {
-        bounded = emptied_bounded e.blank s o.bounded i l;
+        bounded = emptied_bounded e s o.bounded i l;
         few_workers = o.few_workers;
-        consistent = λ _. quiet e same s o i l Empty s.seatings tt;
+        consistent = λ _. quiet e s o i l Empty s.seatings tt;
       }
 
   pub seat_sound : (d : Command E) → Sound e.blank (seat_outcome s i d).1

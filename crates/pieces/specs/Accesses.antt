@@ -32,7 +32,7 @@ module _ {E : Type 0} where
 
   -- one access more, settled with o
   abbrev pub one_more : TryView E → Option (Reply E) → TryView E
-  one_more t o = record { accesses = t.accesses + 1; disturbed = t.disturbed; settled = o }
+  one_more t o = record t { accesses = t.accesses + 1; settled = o }
 
   -- the seat of a try that ends: with the reply that it settled with. One that had not settled would be loaded again
   abbrev pub ended_with : Command E → Option (Reply E) → SeatView E
@@ -41,7 +41,7 @@ module _ {E : Type 0} where
 
   -- a change of another worker disturbs a try that has not settled
   abbrev pub disturbed_try : Option (Reply E) → TryView E → TryView E
-  disturbed_try None t = record { accesses = t.accesses; disturbed = true; settled = t.settled }
+  disturbed_try None t = record t { disturbed = true }
   disturbed_try (Some r) t = t
 
   abbrev pub disturbed_seat : SeatView E → SeatView E

@@ -50,7 +50,7 @@ module _ {E : Type 0} where
 module _ {E C : Type 0} where
   -- the view with another seat of worker i
   abbrev pub reseated : PieceView E C → ℕ → SeatView E → PieceView E C
-  reseated v i q = record { content = v.content; seatings = v.seatings; seats = slice_set v.seats i q }
+  reseated v i q = record v { seats = slice_set v.seats i q }
 
   -- the questions before a Step, the first no deciding
   abbrev pub step_refusal : PieceView E C → ℕ → Option Refusal
@@ -66,7 +66,7 @@ module _ {E C : Type 0} where
 
   -- Clear empties every seat
   abbrev pub cleared : PieceView E C → PieceView E C
-  cleared v = record { content = v.content; seatings = v.seatings; seats = map (λ _. empty) v.seats }
+  cleared v = record v { seats = map (λ _. empty) v.seats }
 
 module _ {E C : Type 0} (N : Names E C) where
   -- before a Seat
@@ -81,7 +81,7 @@ module _ {E C : Type 0} (N : Names E C) where
   abbrev pub seated : PieceView E C → ℕ → Command E → Result (Unit {0}) Refusal × PieceView E C
   seated v i c =
       unless_refused (seat_refusal v i c) v
-      (tt, record { content = v.content; seatings = v.seatings + 1; seats = slice_set v.seats i (loaded c) })
+      (tt, reseated (record v { seatings = v.seatings + 1 }) i (loaded c))
 
   -- Take empties the seat, and gives its reply
   abbrev pub taken : PieceView E C → ℕ → Result (Reply E) Refusal × PieceView E C

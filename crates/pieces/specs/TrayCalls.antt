@@ -21,15 +21,7 @@ filled n a xs = replicate n a ++ drop n xs
 module _ {E : Type 0} where
   -- the state with a command seated
   abbrev pub loaded : TrayState E → ℕ → Command E → TrayState E
-  loaded s i c =
-      record {
-        cells = s.cells;
-        heads = s.heads;
-        seats = slice_set s.seats i (Loaded (tray_command c));
-        seatings = s.seatings + 1;
-        room = s.room;
-        count = s.count;
-      }
+  loaded s i c = with_seat (record s { seatings = s.seatings + 1 }) i (Loaded (tray_command c))
 
   -- Seat
   abbrev pub seat_outcome : TrayState E → ℕ → Command E → Result (Unit {0}) Refusal × TrayState E

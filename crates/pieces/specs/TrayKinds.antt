@@ -1,6 +1,6 @@
 -- The command kinds of a tray.
-use Rattle.std.specs.Prelude.{ℕ, Bool, cond, ◌||◌, List, [], ◌∷◌, Ok, Err, Result, ◌==◌, refl}
-use Rattle.elements.specs.Refusals.{refusal}
+use Rattle.std.specs.Prelude.{ℕ, Bool, cond, List, [], ◌∷◌, map, Ok, Err, Result, ◌==◌, refl}
+use Rattle.elements.specs.Refusals.{one_of, refusal}
 use Rattle.elements.specs.declared.commands.Command.{Command}
 use Rattle.elements.specs.declared.refusals.Refusal.{Refusal}
 use Rattle.elements.specs.declared.refusals.Cause.TheVariants.{UnknownKind}
@@ -15,19 +15,19 @@ abbrev pub tray_kind_number : TrayKind → ℕ
 tray_kind_number Push = 1
 tray_kind_number Pop = 2
 
+-- the numbers of the kinds that a tray knows
+abbrev pub tray_kinds : List ℕ
+tray_kinds = map tray_kind_number (Push ∷ Pop ∷ [])
+
 -- is this number the kind of a command of a tray?
 abbrev pub tray_knows : ℕ → Bool
-tray_knows n = n == tray_kind_number Push || n == tray_kind_number Pop
+tray_knows n = one_of tray_kinds n
 
--- the numbers of the kinds that it knows, as a list
-abbrev pub tray_kinds : List ℕ
-tray_kinds = tray_kind_number Push ∷ tray_kind_number Pop ∷ []
-
--- the kind with a number that a tray knows
+-- the kind with this number, which is known: a pop, if it is no push
 abbrev pub tray_kind : ℕ → TrayKind
 tray_kind n = cond (n == tray_kind_number Push) Push Pop
 
--- the kind with any number, or the refusal of a tray that knows no such kind
+-- the kind with this number, or the refusal of a tray that knows no such kind
 abbrev pub tray_kind_of : ℕ → Result TrayKind Refusal
 tray_kind_of n = cond (tray_knows n) (Ok (tray_kind n)) (Err (refusal Piece 4 UnknownKind refl refl))
 
@@ -39,7 +39,7 @@ abbrev pub TraySeat : Type 0 → Type 0
 TraySeat E = Seat TrayKind E (Phase E)
 
 module _ {E : Type 0} where
-  -- a command whose kind is known, and back
+  -- a command as a seat holds it, and as it came. One of a kind that is not known, which is never seated, would be a pop
   abbrev pub tray_command : Command E → TrayCommand E
   tray_command c = record { kind = tray_kind c.kind; element = c.element }
 

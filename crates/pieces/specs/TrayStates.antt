@@ -41,13 +41,13 @@ module _ {E : Type 0} where
 
   -- the state with other cells, another head, other seats, another seat of worker i
   abbrev pub with_cells : TrayState E → List (Cell E) → TrayState E
-  with_cells s cs = record { cells = cs; heads = s.heads; seats = s.seats; seatings = s.seatings; room = s.room; count = s.count }
+  with_cells s cs = record s { cells = cs }
 
   abbrev pub with_head : TrayState E → Head E → TrayState E
-  with_head s h = record { cells = s.cells; heads = slice_set s.heads 0 h; seats = s.seats; seatings = s.seatings; room = s.room; count = s.count }
+  with_head s h = record s { heads = slice_set s.heads 0 h }
 
   abbrev pub with_seats : TrayState E → List (TraySeat E) → TrayState E
-  with_seats s qs = record { cells = s.cells; heads = s.heads; seats = qs; seatings = s.seatings; room = s.room; count = s.count }
+  with_seats s qs = record s { seats = qs }
 
   abbrev pub with_seat : TrayState E → ℕ → TraySeat E → TrayState E
   with_seat s i q = with_seats s (slice_set s.seats i q)

@@ -11,7 +11,8 @@ use elements::commands::{Command, Reply};
 use elements::element::Element;
 use elements::refusals::Refusal;
 
-// A Seat, by its meaning.
+// A Seat, by its meaning. This and the next two each call a method of their own: of a closure over the piece a proof
+// would not know what it leaves.
 fn seat_meant<P: Piece>(
     piece: &mut P,
     worker: usize,
@@ -55,6 +56,7 @@ fn finish<P: Piece>(piece: &mut P, worker: usize)
     ensures view { Finished (names_of P.Piece.meaning piece.old) (view_of P.Piece.meaning piece.old) worker (view_of P.Piece.meaning piece.new) }
 {
     piece.keeps_meaning();
+    // The range counts accesses, and is no index.
     for _access in 0..piece.longest() {
         if ends(step_meant(piece, worker)) {
             return;

@@ -17,7 +17,7 @@ pub trait Piece {
     // w, the most accesses in one try
     const LONGEST_TRY: usize;
 
-    // the numbers of the command kinds that it knows
+    // the numbers of the command kinds that it knows; each piece has an enum of its own for them
     const COMMAND_KINDS: &'static [u8];
 
     // its whole state, what each call makes of it exactly, and what that means

@@ -5,7 +5,7 @@ ghost use Rattle.pieces.specs.Seats.{occupant, idle, once_more, reply_in};
 use crate::refusals::refuse;
 use elements::commands::{Code, Command, Reply};
 use elements::element::Element;
-use elements::refusals::{Cause, Refusal};
+use elements::refusals::{Cause, Layer, Refusal};
 
 // A command whose kind is known: K has the kinds of one piece.
 #[derive(Clone, Copy)]
@@ -33,14 +33,14 @@ pub fn occupant<K: Copy, E: Element, T: Copy>(
 ) -> Result<Seat<K, E, T>, Refusal>
     ensures { result ≡ occupant (length seats.now) seats.now worker }
 {
-    match seats.get(worker) {
-        Some(seat) => Ok(*seat),
-        None => refuse(Cause::NoSuchWorker),
-    }
+    seats.get(worker).copied().ok_or(Refusal {
+        layer: Layer::Piece,
+        cause: Cause::NoSuchWorker,
+    })
 }
 
 impl<K: Copy, E: Element, T: Copy> Seat<K, E, T> {
-    // Whether a command can be seated here.
+    // Refuses where no command can be seated.
     pub fn idle(self) -> Result<(), Refusal>
         ensures { result ≡ idle self }
     {
@@ -50,7 +50,7 @@ impl<K: Copy, E: Element, T: Copy> Seat<K, E, T> {
         }
     }
 
-    // What can be taken from here.
+    // What a Take gives here.
     pub fn reply(self) -> Result<Reply<E>, Refusal>
         ensures { result ≡ reply_in E.Element.kind.blank self }
     {

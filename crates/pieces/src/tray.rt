@@ -16,6 +16,7 @@ pub mod records;
 // A tray in three strips that its caller lends: the cells, the head, and one seat for each worker; with `room` places
 // and `count` workers, at most sixteen. Every tray is sound: no index leaves the strips, no tick passes the number of
 // seatings, and what the seats remember agrees with the cells and the head.
+// The strips are kept to their ends, beside `room` and `count`: what stands past these is promised too.
 #[derive(Drop)]
 pub struct Tray<'a, E: Element> {
     cells: &'a mut [Cell<E>],

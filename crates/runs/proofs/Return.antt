@@ -6,7 +6,7 @@ use Rattle.std.proofs.lemmas.List.Folds.{fold_stays}
 use Rattle.std.proofs.lemmas.List.Sums.{fold-append}
 use Rattle.elements.specs.Kinds.{ElementKind}
 use Rattle.pieces.specs.Ticks.{tick_eq}
-use Rattle.pieces.proofs.TickLaws.{tick_eq_same, tick_eq_true}
+use Rattle.pieces.proofs.TickLaws.{Decides-tick_eq}
 use Rattle.pieces.specs.declared.tray.records.TrayKind.TheVariants.{Push}
 use Rattle.pieces.specs.declared.tray.records.Try.{Try}
 use Rattle.pieces.specs.TrayStates.{TrayState, head_of}
@@ -21,9 +21,9 @@ use Rattle.runs.specs.NoReturn.{head_pair, NoReturn}
 
 module _ {E : Type 0} (e : ElementKind E) (same : (x : E) → e.same x x ≡ true) where
   call_sound : (s : TrayState E) → Sound e.blank s → (c : Call E) → Sound e.blank (performed e s c).1
-  call_sound s o (Seat i c) = seat_sound e same s o i c
-  call_sound s o (Step i) = step_sound e same s o i
-  call_sound s o (Take i) = take_sound e same s o i
+  call_sound s o (Seat i c) = seat_sound e s o i c
+  call_sound s o (Step i) = step_sound e s o i same
+  call_sound s o (Take i) = take_sound e s o i
 
   call_later : (s : TrayState E) → Sound e.blank s → (c : Call E) → Later e s (performed e s c).1
   call_later s o (Seat i c) = later_quiet e s _ (grind arith) (grind arith)
@@ -52,12 +52,12 @@ module _ {E : Type 0} (e : ElementKind E) (same : (x : E) → e.same x x ≡ tru
     same_pair : (z : TrayState E) → agrees (head_of e.blank z.heads) now ≡ true → head_pair e z ≡ head_pair e s
     same_pair z a =
         let p = and_parts (eqb (head_pair e z).0 (head_pair e s).0) (tick_eq (head_pair e z).1 (head_pair e s).1) a in
-        λ j. (eqb-true (head_pair e z).0 (head_pair e s).0 p.0 j, tick_eq_true (head_pair e z).1 (head_pair e s).1 p.1 j)
+        λ j. (eqb-true (head_pair e z).0 (head_pair e s).0 p.0 j, (Decides-tick_eq (head_pair e z).1 (head_pair e s).1).0 p.1 j)
 
     pair_agrees : (z : TrayState E) → head_pair e z ≡ head_pair e s → agrees (head_of e.blank z.heads) now ≡ true
     pair_agrees z f =
         and_from _ _ (eq-eqb (head_pair e z).0 (head_pair e s).0 (ap (λ p. p.0) f))
-        (subst (λ (p : ℕ × ℤ). tick_eq (head_pair e z).1 p.1 ≡ true) f (tick_eq_same (head_pair e z).1))
+        (subst (λ (p : ℕ × ℤ). tick_eq (head_pair e z).1 p.1 ≡ true) f ((Decides-tick_eq (head_pair e z).1 (head_pair e z).1).1 refl))
 
     gone_for_good : 0 < s.count → (cs ds : List (Call E)) → (head_pair e (state_after e s cs) ≡ head_pair e s → ⊥)
         → head_pair e (state_after e (state_after e s cs) ds) ≡ head_pair e s → ⊥

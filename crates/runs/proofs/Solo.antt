@@ -4,13 +4,12 @@ use Rattle.std.proofs.lemmas.List.{get_or-set_same, set-set}
 use Rattle.std.proofs.Math.Bool.{and-true}
 use Rattle.std.proofs.lemmas.Bool.{cond-true, lt-ltb, eq-eqb, and_from}
 use Rattle.elements.specs.Kinds.{ElementKind}
-use Rattle.elements.specs.declared.commands.Command.{Command}
 use Rattle.elements.specs.declared.commands.Reply.{Reply}
 use Rattle.elements.specs.declared.refusals.Refusal.{Refusal}
 use Rattle.pieces.specs.declared.tray.records.Cell.{Cell}
 use Rattle.pieces.specs.declared.tray.records.Head.{Head}
 use Rattle.pieces.specs.Ticks.{tick_eq}
-use Rattle.pieces.proofs.TickLaws.{tick_eq_same}
+use Rattle.pieces.proofs.TickLaws.{Decides-tick_eq}
 use Rattle.pieces.specs.declared.tray.records.Try.{Try}
 use Rattle.pieces.specs.declared.tray.records.Next.{Next}
 use Rattle.pieces.specs.TrayKinds.{TrayCommand, TraySeat}
@@ -78,7 +77,7 @@ module _ {E : Type 0} (e : ElementKind E) (s : TrayState E) (i : ℕ) (l : i < s
         (ap (λ b. tick_eq cell.tick (h.tick -ℤ pos 1) && b) (law cell.element) ∙ and-true (tick_eq cell.tick (h.tick -ℤ pos 1)))
 
     same_head : unchanged e h t ≡ true
-    same_head = and_from _ _ (and_from _ _ (eq-eqb h.index h.index refl) (tick_eq_same h.tick)) (law h.element)
+    same_head = and_from _ _ (and_from _ _ (eq-eqb h.index h.index refl) ((Decides-tick_eq h.tick h.tick).1 refl)) (law h.element)
 
     access_1 : (step_outcome e (at s.cells (Loaded c)) i).1 ≡ at s.cells (Running (HeadRead t))
     access_1 = ap (λ y. y.1) (step_at s.cells (Loaded c)) ∙ again s.cells (Loaded c) (Running (HeadRead t))

@@ -7,6 +7,7 @@ use elements::commands::Code;
 use elements::element::Element;
 use std::alloc::{AllocError, Global};
 
+// What an event took off. The code of a reply is a number, since an object may have codes of its own.
 fn taken_off<E: Element>(event: Event<E>) -> Option<E>
     ensures { result ≡ popped event }
 {

@@ -9,12 +9,13 @@ ghost use Rattle.runs.specs.Events.{access_number, touched_at, touched, access_t
 use crate::events::{Access, Call, Event, Step, Touched};
 use elements::element::Element;
 use elements::refusals::Refusal;
+use pieces::piece::Piece;
 use pieces::seats::Seat;
 use pieces::tray::Tray;
 use pieces::tray::records::{Phase, TrayKind, TraySeat, Try};
 use std::alloc::{AllocError, Global};
 
-// Which access a seat makes next; 0 for one that makes none, whose Step is refused.
+// Which access a seat makes next, 1 to 5; 0, which is never told, for one that makes none, whose Step is refused.
 fn access_number<E: Element>(seat: Option<TraySeat<E>>) -> u8
     ensures { result ≡ access_number seat }
 {

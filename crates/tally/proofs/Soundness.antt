@@ -2,6 +2,7 @@
 use Rattle.std.proofs.Common.{◌≡◌, ℕ, ◌+◌, ◌<◌, ◌≤◌, length, take, set, replicate, pos, ◌+ℤ◌, sum_by, true, Ok, ℤ, FitsSigned, w64, ◌≤ℤ◌, sym, refl, ap, ◌∙◌, subst, inl, inr, arith}
 use Rattle.std.specs.Int.{cast_signed, cast_unsigned}
 use Rattle.std.proofs.lemmas.List.{length-set, get_or-set_same, get_or-set_other, get_or-replicate, get_or-take, length-take-le, take-replicate}
+use Rattle.std.proofs.lemmas.List.Folds.{sum_by-replicate}
 use Rattle.std.proofs.lemmas.Int.{ints, to_z-of_z}
 use Rattle.std.proofs.lemmas.Bool.{cases_eq}
 use Rattle.elements.specs.Codes.{reply}
@@ -16,7 +17,7 @@ use Rattle.pieces.specs.Calls.{most_seatings}
 use Rattle.pieces.specs.Seats.{seat_at, occupant, once_more}
 use Rattle.pieces.specs.Ticks.{TickOk}
 use Rattle.pieces.proofs.TickLaws.{tick_kept, tick_up, tick_most}
-use Rattle.pieces.proofs.SeatLaws.{sum_set, sum_replicate}
+use Rattle.pieces.proofs.SeatLaws.{sum_set}
 use Rattle.tally.specs.declared.Tally.{Tally}
 use Rattle.tally.specs.declared.records.Pair.{Pair}
 use Rattle.tally.specs.declared.records.PairRead.{PairRead}
@@ -128,7 +129,7 @@ module _ (x : Tally) (i : ℕ) (r : PairRead) (held : occupant (length (take x.c
 
 -- of n workers whose seats are all empty, none is unsettled
 none_unsettled : (n : ℕ) → n ≤ 16 → sum_by unsettled (take n (replicate 16 Empty)) ≡ 0
-none_unsettled n few = ap (sum_by unsettled) (take-replicate n 16 Empty few) ∙ sum_replicate unsettled Empty refl n
+none_unsettled n few = omega (arith, ap (sum_by unsettled) (take-replicate n 16 Empty few), sum_by-replicate unsettled n Empty)
 
 pub clear_sound : (s : TallyState) → Sound s → Sound (clear_outcome s)
 clear_sound s o =

@@ -3,9 +3,7 @@
 
 ghost use Rattle.tally.specs.TallySound.{Sound};
 
-use crate::records::{Pair, PairRead, TallyKind};
-use elements::kinds::Amount;
-use pieces::seats::Seat;
+use crate::records::{Pair, TallySeat};
 
 mod accesses;
 mod calls;
@@ -15,10 +13,11 @@ pub mod records;
 
 // A tally: its total is at most `limit`, and its workers have the first `count` seats. Every tally is sound: its tick
 // never passes the number of seatings, and a try that remembers the tick of now remembers the total of now.
+// The table is of fixed size, for sixteen workers, since a piece uses no heap.
 #[derive(Drop)]
 pub struct Tally {
     pair: Pair,
-    seats: [Seat<TallyKind, Amount, PairRead>; 16],
+    seats: [TallySeat; 16],
     seatings: u32,
     limit: u32,
     count: usize,

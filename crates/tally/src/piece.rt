@@ -64,6 +64,7 @@ impl Piece for Tally {
                 self.seats[worker] = after;
                 Ok(answer)
             }
+            // Access 2 compares the pair, and sets it.
             Seat::Running(read) if self.pair == read.pair => {
                 self.pair.total += read.amount.units;
                 self.pair.tick += 1;

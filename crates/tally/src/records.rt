@@ -1,12 +1,16 @@
 // What a tally holds.
 use elements::kinds::Amount;
+use pieces::seats::{KnownCommand, Seat};
 
 // The command kinds of a tally.
-#[derive(Clone, Copy)]
+#[derive(Clone, Copy, PartialEq, Eq, Debug)]
 pub enum TallyKind {
     Add,
     Read,
 }
+
+// A command that a tally knows.
+pub type TallyCommand = KnownCommand<TallyKind, Amount>;
 
 // What all workers share: the total, and the tick, which grows with every add.
 #[derive(Clone, Copy, PartialEq, Eq, Debug)]
@@ -21,3 +25,6 @@ pub struct PairRead {
     pub amount: Amount,
     pub pair: Pair,
 }
+
+// The seat of one worker of a tally.
+pub type TallySeat = Seat<TallyKind, Amount, PairRead>;

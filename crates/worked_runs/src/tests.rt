@@ -1,4 +1,4 @@
-// What the tests share.
+// What the tests share. Kinds, codes and answers are written as the rules number them.
 use elements::commands::{Command, Reply};
 use elements::kinds::Bin;
 use elements::refusals::{Cause, Layer, Refusal};

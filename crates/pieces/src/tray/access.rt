@@ -26,10 +26,23 @@ fn go_on<E: Element>(
     requires { Reachable room cells.old heads.old (Running phase) }
     ensures { (qs : List (TraySeat E)) (i g n : ℕ) → (Ok result.0, state_of cells.new heads.new (slice_set qs i result.1) g room n) ≡ accessed E.Element.kind (state_of cells.old heads.old qs g room n) i (Running phase) }
 {
+    // One step for each case of a closed list, which carries what the step needs.
     match phase {
-        Phase::HeadRead(attempt) => read_element(cells, attempt),
+        Phase::HeadRead(attempt) => {
+            let element = read_element(cells, attempt.head.index);
+            (
+                StepAnswer::Moved,
+                Seat::Running(Phase::CellRead(attempt, element)),
+            )
+        }
         Phase::CellRead(attempt, element) => help(cells, room, attempt, element),
-        Phase::CellWritten(attempt) => read_neighbour(cells, attempt),
+        Phase::CellWritten(attempt) => {
+            let next = read_neighbour(cells, attempt);
+            (
+                StepAnswer::Moved,
+                Seat::Running(Phase::NeighbourRead(attempt, next)),
+            )
+        }
         Phase::NeighbourRead(attempt, next) => move_head(heads, attempt, next),
     }
 }

@@ -1,4 +1,4 @@
-// The accesses of a try, each to one strip: what it answers, and what it leaves in the worker's seat.
+// The accesses of a try, each to one strip.
 ghost use Rattle.std.specs.Prelude.{◌≡◌, ◌+◌, ◌<◌, ◌≤◌, length, pos, negsuc, ◌≤ℤ◌, if◌then◌else◌, ◌≢◌, slice_set};
 ghost use Rattle.pieces.specs.declared.seats.Seat.TheVariants.{Loaded, Running, Ended};
 ghost use Rattle.pieces.specs.declared.tray.records.Phase.TheVariants.{HeadRead, CellRead, CellWritten, NeighbourRead};
@@ -34,17 +34,6 @@ pub(super) fn read_head<E: Element>(heads: &[Head<E>]) -> Head<E>
     }
 }
 
-// A whole cell: no access of a try, but to show it.
-pub(super) fn read_cell<E: Element>(cells: &[Cell<E>], index: usize) -> Cell<E>
-    requires { index < length cells.now }
-    ensures { result ≡ cell_at E.Element.kind.blank cells.now index }
-{
-    Cell {
-        element: cells[index].element,
-        tick: cells[index].tick,
-    }
-}
-
 // Access 1: reads the head.
 pub(super) fn begin<E: Element>(
     heads: &[Head<E>],
@@ -66,19 +55,12 @@ pub(super) fn begin<E: Element>(
     )
 }
 
-// Access 2: reads the element of the head's cell.
-pub(super) fn read_element<E: Element>(
-    cells: &[Cell<E>],
-    attempt: Try<E>,
-) -> (StepAnswer, TraySeat<E>)
-    requires { attempt.head.index < length cells.now }
-    ensures { result ≡ (Moved, Running (CellRead attempt (cell_at E.Element.kind.blank cells.now attempt.head.index).element)) }
+// Access 2: reads the element of a cell.
+pub(super) fn read_element<E: Element>(cells: &[Cell<E>], index: usize) -> E
+    requires { index < length cells.now }
+    ensures { result ≡ (cell_at E.Element.kind.blank cells.now index).element }
 {
-    let element = cells[attempt.head.index].element;
-    (
-        StepAnswer::Moved,
-        Seat::Running(Phase::CellRead(attempt, element)),
-    )
+    cells[index].element
 }
 
 // Access 3 helps: if the cell is as access 2 read it, and one tick behind the top that the try saw, the top is written
@@ -122,8 +104,8 @@ pub(super) fn help<E: Element>(
     }
 }
 
-// The cell that the try will make the top, read field by field.
-fn read_next<E: Element>(cells: &[Cell<E>], attempt: Try<E>) -> Next<E>
+// Access 4: reads the cell that the try will make the top.
+pub(super) fn read_neighbour<E: Element>(cells: &[Cell<E>], attempt: Try<E>) -> Next<E>
     requires within { neighbour attempt < length cells.now }
     requires apart { neighbour attempt ≢ attempt.head.index }
     ensures { result ≡ next_of E.Element.kind cells.now attempt }
@@ -141,23 +123,7 @@ fn read_next<E: Element>(cells: &[Cell<E>], attempt: Try<E>) -> Next<E>
     }
 }
 
-// Access 4: reads the cell that the try will make the top.
-pub(super) fn read_neighbour<E: Element>(
-    cells: &[Cell<E>],
-    attempt: Try<E>,
-) -> (StepAnswer, TraySeat<E>)
-    requires within { neighbour attempt < length cells.now }
-    requires apart { neighbour attempt ≢ attempt.head.index }
-    ensures { result ≡ (Moved, Running (NeighbourRead attempt (next_of E.Element.kind cells.now attempt))) }
-{
-    let next = read_next(cells, attempt);
-    (
-        StepAnswer::Moved,
-        Seat::Running(Phase::NeighbourRead(attempt, next)),
-    )
-}
-
-// Whether the head is still as the try saw it.
+// Whether the head is still as the try saw it: an access reads field by field, and elements need only be the same.
 fn stands<E: Element>(heads: &[Head<E>], attempt: Try<E>) -> bool
     requires { 0 < length heads.now }
     ensures { result ≡ unchanged E.Element.kind (head_of E.Element.kind.blank heads.now) attempt }
@@ -166,24 +132,6 @@ fn stands<E: Element>(heads: &[Head<E>], attempt: Try<E>) -> bool
     heads[0].index == seen.index
         && heads[0].tick == seen.tick
         && heads[0].element.same(seen.element)
-}
-
-// The head that the try makes.
-fn next_head<E: Element>(attempt: Try<E>, next: Next<E>) -> Head<E>
-    requires index { attempt.head.index ≤ 1024 }
-    requires apart { neighbour attempt ≢ attempt.head.index }
-    requires tick { next.tick ≤ℤ pos 4000000000 }
-    ensures { result ≡ moved_head E.Element.kind attempt next }
-{
-    let index = match attempt.command.kind {
-        TrayKind::Push => attempt.head.index + 1,
-        TrayKind::Pop => attempt.head.index - 1,
-    };
-    Head {
-        index,
-        element: next.element,
-        tick: next.tick + 1,
-    }
 }
 
 // Access 5: moves the head, if it is still as the try saw it; if it is not, the try is stood off.
@@ -202,7 +150,15 @@ pub(super) fn move_head<E: Element>(
     if !stands(heads, attempt) {
         return (StepAnswer::StoodOff, Seat::Loaded(attempt.command));
     }
-    heads[0] = next_head(attempt, next);
+    let index = match attempt.command.kind {
+        TrayKind::Push => attempt.head.index + 1,
+        TrayKind::Pop => attempt.head.index - 1,
+    };
+    heads[0] = Head {
+        index,
+        element: next.element,
+        tick: next.tick + 1,
+    };
     (StepAnswer::SettledEnded, Seat::Ended(done_reply(attempt)))
 }
 

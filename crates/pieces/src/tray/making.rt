@@ -16,7 +16,8 @@ pub(super) fn hold_tray<E: Element>(
     cells.len() > 1 && heads.len() > 0 && seats.len() > 0
 }
 
-// Writes the same value into the first `count` places of a strip.
+// Writes the same value into the first `count` places of a strip. It takes the whole strip, since under the tray's
+// `&mut self` a part of one cannot be lent.
 pub(super) fn fill<A: Copy>(strip: &mut [A], count: usize, value: A)
     requires { count ≤ length strip.old }
     ensures { strip.new ≡ filled count value strip.old }

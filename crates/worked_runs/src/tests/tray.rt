@@ -3,6 +3,7 @@ use super::{bin, cell, head, refusal, reply, steps};
 use elements::commands::Command;
 use elements::kinds::Bin;
 use elements::refusals::Cause;
+use pieces::piece::Piece;
 use pieces::seats::{KnownCommand, Seat};
 use pieces::tray::Tray;
 use pieces::tray::kinds::{pop, push};

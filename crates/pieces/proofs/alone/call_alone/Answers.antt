@@ -1,17 +1,7 @@
 use Rattle.std.proofs.Common.{◌∙◌}
-use Rattle.std.proofs.lemmas.Result.{err_from_is_err_and}
 use Rattle.pieces.specs.Meanings.{names_of, view_of}
-use Rattle.pieces.proofs.Solo.{refused_alone, alone}
+use Rattle.pieces.proofs.Solo.{alone}
 use Rattle.pieces.proofs.alone.call_alone.Goals as goal
-
-pub returns-in_err-seat_meant : goal.returns-in_err-seat_meant
-returns-in_err-seat_meant g c =
-    let m = g.P.Piece.meaning in
-    let x = c.args.piece.now in
-    let d = c.args.command in
-    let p = err_from_is_err_and c.from_residual.result c.from_residual.ensures.1 in
-    rw (p.1, p.2)
-    (refused_alone (names_of m x) (view_of m x) c.args.worker d c.in_err-seat_meant.field-0.0 (view_of m c.seat_meant.new.piece) c.in_err-seat_meant.ensures.meant)
 
 pub returns : goal.returns
 returns g c =

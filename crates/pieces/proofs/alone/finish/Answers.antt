@@ -1,25 +1,16 @@
-use Rattle.std.proofs.Common.{refl, ◌∙◌}
+use Rattle.std.proofs.Common.{◌∙◌}
 use Rattle.pieces.specs.Meanings.{names_of, view_of}
-use Rattle.pieces.proofs.Solo.{starts, access_ends, access_goes_on}
+use Rattle.pieces.proofs.Solo.{access_ends, access_goes_on}
 use Rattle.pieces.proofs.alone.finish.Goals as goal
 
-pub loop-access-init : goal.loop-access-init
-loop-access-init g c =
-    let p = g.P.Piece.meaning in
-    let x = c.args.piece.now in
-    (refl, λ d _ at. (starts (names_of p x) (view_of p x) c.args.worker d at, c.keeps_meaning.ensures.lawful.some_access))
-
-pub returns-then-ends : goal.returns-then-ends
-returns-then-ends g c =
+pub returns-then-ends-clause-view : goal.returns-then-ends-clause-view
+returns-then-ends-clause-view g c =
     let p = g.P.Piece.meaning in
     let x = c.args.piece.now in
     let y = c.loop-access.piece in
-    record {
-      names = c.step_meant.ensures.names ∙ c.loop-access.invariant.0;
-      view = λ d there at.
-          access_ends (names_of p x) (names_of p y) c.loop-access.invariant.0 (view_of p x) c.args.worker d there at c.loop-access._access (view_of p y)
-          (view_of p c.step_meant.new.piece) (c.loop-access.invariant.1 d there at).0 c.step_meant.result c.step_meant.ensures.meant c.if-ends.ensures;
-    }
+    λ d there at.
+    access_ends (names_of p x) (names_of p y) c.loop-access.invariant.0 (view_of p x) c.args.worker d there at c.loop-access._access (view_of p y)
+    (view_of p c.step_meant.new.piece) (c.loop-access.invariant.1 d there at).0 c.step_meant.result c.step_meant.ensures.meant c.if-ends.ensures
 
 pub loop-access-preserved : goal.loop-access-preserved
 loop-access-preserved g c =
