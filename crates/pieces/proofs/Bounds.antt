@@ -1,26 +1,27 @@
 -- Every call leaves a tray within its bounds.
-use Rattle.std.proofs.Common.{◌≡◌, ℕ, ◌+◌, ◌<◌, ◌≤◌, Bool, true, false, cond, List, [], ◌∷◌, length, take, set, replicate, sum_by, sym, refl, ap, ◌∙◌, subst, inl, inr, zero-le, le_refl, arith}
+use Rattle.std.proofs.Common.{◌≡◌, ℕ, ◌+◌, ◌<◌, ◌≤◌, Bool, true, false, cond, ltb, List, [], ◌∷◌, length, take, set, replicate, sum_by, sym, refl, ap, ◌∙◌, subst, inl, inr, zero-le, le_refl, arith}
 use Rattle.std.proofs.lemmas.List.{length-set, get_or-set_same, get_or-set_other}
 use Rattle.std.proofs.lemmas.List.Sums.{sum_by-cons}
 use Rattle.std.proofs.lemmas.List.Folds.{sum_by-replicate}
-use Rattle.std.proofs.lemmas.Bool.{cases_eq}
-use Rattle.elements.specs.Kinds.{ElementKind}
+use Rattle.std.proofs.lemmas.Bool.{cases_eq, ltb-true}
+use Rattle.elements.specs.Kinds.{ElementKind, uncompared}
+use Rattle.elements.specs.declared.commands.Command.{Command}
 use Rattle.pieces.specs.declared.tray.records.Cell.{Cell}
 use Rattle.pieces.specs.declared.tray.records.Head.{Head}
 use Rattle.pieces.specs.declared.tray.records.Try.{Try}
 use Rattle.pieces.specs.declared.tray.records.Next.{Next}
-use Rattle.pieces.specs.TrayKinds.{TrayCommand, TraySeat}
+use Rattle.pieces.specs.TrayKinds.{TrayCommand, TraySeat, tray_knows, tray_command}
 use Rattle.pieces.specs.declared.seats.Seat.TheVariants.{Empty, Loaded, Ended, Running}
 use Rattle.pieces.specs.declared.tray.records.Phase.TheVariants.{HeadRead, CellRead, CellWritten, NeighbourRead}
 use Rattle.pieces.specs.Seats.{seat_at}
-use Rattle.pieces.specs.TrayStates.{TrayState, state_of, cell_at, head_of, with_seat}
+use Rattle.pieces.specs.TrayStates.{TrayState, state_of, cell_at, head_of, with_seat, with_seats}
 use Rattle.pieces.specs.TrayAccess.{at_limit, settled_early, neighbour, helps, helped_cells, next_of, unchanged, moved_head, limit_reply, done_reply, accessed}
-use Rattle.pieces.specs.TrayCalls.{filled, clear_outcome}
+use Rattle.pieces.specs.TrayCalls.{loaded, seat_outcome, step_outcome, take_outcome, clear_outcome}
 use Rattle.pieces.specs.TrayBounds.{unsettled, all_unsettled, TryOk, SeatOk, Held, Bounded}
-use Rattle.pieces.proofs.Filling.{take_filled, length_filled, get_or_filled}
+use Rattle.pieces.proofs.Filling.{filled_keeps}
 use Rattle.pieces.specs.Calls.{most_seatings}
 use Rattle.pieces.specs.Ticks.{TickOk}
-use Rattle.pieces.proofs.CallLaws.{by_test}
+use Rattle.pieces.proofs.CallLaws.{by_test, seat_left, take_left}
 use Rattle.pieces.proofs.SeatLaws.{sum_set}
 use Rattle.pieces.proofs.TickLaws.{tick_kept, tick_up}
 use Rattle.pieces.proofs.Ticks.{try_kept, seat_kept, goes}
@@ -29,6 +30,13 @@ use Rattle.pieces.proofs.Ticks.{try_kept, seat_kept, goes}
 is_sum : {E : Type 0} (k : ℕ) (qs : List (TraySeat E)) → all_unsettled k qs ≡ sum_by (unsettled k) qs
 is_sum k [] = refl
 is_sum k (q ∷ qs) = omega (arith, is_sum k qs, sum_by-cons (unsettled k) q qs)
+
+-- a seat without a command: empty, or ended
+abbrev pub Rests : {E : Type 0} → TraySeat E → Type 0
+Rests Empty = Unit {0}
+Rests (Loaded c) = ⊥
+Rests (Running t) = ⊥
+Rests (Ended r) = Unit {0}
 
 at_most_one : (b : Bool) → cond {A = ℕ} b 0 1 ≤ 1
 at_most_one true = zero-le
@@ -181,9 +189,16 @@ module _ {E : Type 0} (e : ElementKind E) (s : TrayState E) (b : Bounded e.blank
       (λ _. quiet (Loaded t.command) s.seatings (fewer (Running (NeighbourRead t x)) (Loaded t.command) at (le_refl 1)) b.few tt)
   access_bounded (Ended r) at o = b
 
-  -- a seat is emptied
+  -- a seat is left without a command
+  pub rested_bounded : (q : TraySeat E) → Rests q → Bounded e.blank (with_seat s i q)
+  rested_bounded Empty r = quiet Empty s.seatings (fewer (seat_at s.seats i) Empty refl zero-le) b.few tt
+  rested_bounded (Loaded c) r = absurd r
+  rested_bounded (Running t) r = absurd r
+  rested_bounded (Ended y) r = quiet (Ended y) s.seatings (fewer (seat_at s.seats i) (Ended y) refl zero-le) b.few tt
+
+  -- as one that is emptied
   pub emptied_bounded : Bounded e.blank (with_seat s i Empty)
-  emptied_bounded = quiet Empty s.seatings (fewer (seat_at s.seats i) Empty refl zero-le) b.few tt
+  emptied_bounded = rested_bounded Empty tt
 
   -- or loaded, which is one seating more
   pub loaded_bounded : (c : TrayCommand E) → s.seatings < most_seatings
@@ -193,27 +208,22 @@ module _ {E : Type 0} (e : ElementKind E) (s : TrayState E) (b : Bounded e.blank
 pub none_unsettled : (E : Type 0) (k n : ℕ) → all_unsettled {E = E} k (replicate n Empty) ≡ 0
 none_unsettled E k n = omega (arith, is_sum {E = E} k (replicate n Empty), sum_by-replicate (unsettled {E = E} k) n Empty)
 
-module _ {E : Type 0} (blank : E) (s : TrayState E) (b : Bounded blank s) where
-  abbrev left : ℕ
-  left = all_unsettled s.room (take s.count (filled s.count Empty s.seats))
+-- so each call leaves a tray within its bounds, by these alone
+module _ {E : Type 0} (e : ElementKind E) (s : TrayState E) (b : Bounded e.blank s) (i : ℕ) where
+  pub seat_bounded : (d : Command E) → Bounded e.blank (seat_outcome s i d).1
+  seat_bounded d =
+      seat_left s.seats s.count s (loaded s i d) (Bounded e.blank) b i s.seatings (tray_knows d.kind)
+      (λ l _ f. loaded_bounded e s b i l (tray_command d) f)
 
-  pub clear_bounded : Bounded blank (clear_outcome s)
-  clear_bounded =
-      let none : left ≡ 0 = ap (all_unsettled s.room) (take_filled s.count Empty s.seats) ∙ none_unsettled E s.room s.count in
-      record {
-        seats_long = omega (arith, b.seats_long, length_filled s.count Empty s.seats b.seats_long);
-        room_small = b.room_small;
-        few = b.few;
-        held = λ some.
-            let h = b.held some in
-            let more : left + s.seatings ≤ all_unsettled s.room (take s.count s.seats) + s.seatings = omega arith in
-            record {
-              heads_long = h.heads_long;
-              cells_long = h.cells_long;
-              some_room = h.some_room;
-              top = h.top;
-              cells_ok = λ y m. tick_kept _ _ _ _ more (h.cells_ok y m);
-              head_ok = tick_kept _ _ _ _ more h.head_ok;
-              seats_ok = λ j l. subst (λ q. SeatOk s.room left s.seatings q) (sym (get_or_filled s.count Empty s.seats j Empty l)) tt;
-            };
-      }
+  pub step_bounded : Bounded e.blank (step_outcome e s i).1
+  step_bounded =
+      by_test (Bounded e.blank) (ltb i s.count) _ _
+      (λ f. let l = ltb-true i s.count f in access_bounded e s b i l (seat_at s.seats i) refl ((held e s b i l).seats_ok i l)) (λ _. b)
+
+  pub take_bounded : (e' : ElementKind E) → Bounded e.blank (take_outcome e' s i).1
+  take_bounded e' = take_left s.seats s.count s (with_seat s i Empty) (Bounded e.blank) b i e'.blank (emptied_bounded e s b i)
+
+pub clear_bounded : {E : Type 0} (blank : E) (s : TrayState E) → Bounded blank s → Bounded blank (clear_outcome s)
+clear_bounded blank s b =
+    filled_keeps (λ qs. Bounded blank (with_seats s qs)) Empty s.seats s.count b.seats_long b
+    (λ qs i l o. emptied_bounded (uncompared blank) (with_seats s qs) o i l) s.count (le_refl s.count)

@@ -1,6 +1,6 @@
 -- What a call of a piece does, by its worker: one that there is, or one that there is not.
-use Rattle.std.proofs.Common.{◌≡◌, ℕ, ◌+◌, ◌<◌, Bool, true, false, cond, ltb, List, None, Ok, Err, Option, Result, sym, refl, ap, ◌∙◌, subst, set}
-use Rattle.std.proofs.lemmas.Bool.{ltb-true, lt-ltb, cond-true}
+use Rattle.std.proofs.Common.{◌≡◌, ℕ, ◌+◌, ◌<◌, ◌≤◌, Bool, true, false, cond, ltb, List, None, Ok, Err, Option, Result, sym, refl, ap, ◌∙◌, subst, set}
+use Rattle.std.proofs.lemmas.Bool.{ltb-true, lt-ltb, le-ltb, cond-true, cond-false}
 use Rattle.elements.specs.Outcomes.{Exactly, unless_refused}
 use Rattle.elements.specs.Refusals.{refusal, ask}
 use Rattle.elements.specs.declared.answers.StepAnswer.{StepAnswer}
@@ -25,6 +25,12 @@ by_test P false y z f g = g refl
 -- a call of a worker that there is
 pub if_there : {R M : Type 0} {r : Result R Refusal} {s : M} (n : ℕ) (m : M) (i : ℕ) {y : Result R Refusal × M} → i < n → Exactly r s y → Exactly r s (if_worker n m i y)
 if_there {r = r} {s = s} n m i {y = y} l o = subst (λ z. Exactly r s z) (sym (cond-true (ltb i n) y _ (lt-ltb i n l))) o
+
+-- and of one that there is not
+pub unknown : {R M : Type 0} {r : Result R Refusal} {s : M} (n : ℕ) (m : M) (i : ℕ) (y : Result R Refusal × M) → n ≤ i
+    → r ≡ Err (refusal Piece 1 NoSuchWorker refl refl) → s ≡ m → Exactly r s (if_worker n m i y)
+unknown {r = r} {s = s} n m i y l e f =
+    subst (λ z. Exactly r s z) (sym (cond-false (ltb i n) y _ (le-ltb i n l))) (record { answer = e; left = f })
 
 -- what Seat and Take leave of a piece whose workers have the seats qs: the piece as it was, or m'
 module _ {K E T M : Type 0} (qs : List (Seat K E T)) (n : ℕ) (m m' : M) (P : M → Type 0) (was : P m) (i : ℕ) where

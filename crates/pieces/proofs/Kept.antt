@@ -24,12 +24,13 @@ use Rattle.pieces.specs.TrayKinds.{TrayCommand, TraySeat, tray_kind_of}
 use Rattle.pieces.specs.TrayStates.{TrayState, with_seat, with_seats}
 use Rattle.pieces.specs.TraySound.{Sound}
 use Rattle.pieces.specs.Trays.{tray_state}
+use Rattle.pieces.proofs.Bounds.{Rests}
 use Rattle.pieces.proofs.CallLaws.{if_there}
 use Rattle.pieces.proofs.Keeping.{seat_ok_one, known, keep}
 use Rattle.pieces.proofs.Reaching.{reachable}
 use Rattle.pieces.proofs.Sameness.{step_by_tick}
 use Rattle.pieces.proofs.SeatLaws.{occupant_in}
-use Rattle.pieces.proofs.Soundness.{more_seatings, step_sound, loaded_sound, emptied_sound, clear_sound}
+use Rattle.pieces.proofs.Soundness.{more_seatings, step_sound, loaded_sound, rested_sound, some_emptied_sound}
 
 -- where there is one seating more, there were some left
 more_left : (m n : ℕ) → ◌≡◌ {A = Result ℕ Refusal} (Ok n) (once_more m) → (m < most_seatings) × (n ≡ m + 1)
@@ -52,9 +53,10 @@ module _ {E : Type 0} {g : Ghosts E} (x : Tray E g) where
       let m = more_left _ _ more in
       ∥∥₁_elim x.sound (hlevel props) (λ o. ∣ more_seatings g.kind.blank s o n (omega (arith, m.1)) (omega (arith, m.0, m.1)) ∣₁)
 
-  -- all seats are emptied
-  pub cleared_kept : (qs : List (TraySeat E)) → qs ≡ filled x.count Empty x.seats.now → ∥ Sound g.kind.blank (with_seats s qs) ∥₁
-  cleared_kept qs is = ∥∥₁_elim x.sound (hlevel props) (λ o. ∣ subst (λ z. Sound g.kind.blank (with_seats s z)) (sym is) (clear_sound g.kind s o) ∣₁)
+  -- the first n seats are emptied, as all of them are
+  pub cleared_kept : (n : ℕ) (qs : List (TraySeat E)) → qs ≡ filled n Empty x.seats.now → n ≤ x.count → ∥ Sound g.kind.blank (with_seats s qs) ∥₁
+  cleared_kept n qs is few =
+      ∥∥₁_elim x.sound (hlevel props) (λ o. ∣ subst (λ z. Sound g.kind.blank (with_seats s z)) (sym is) (some_emptied_sound g.kind s o n few) ∣₁)
 
   -- worker i's seat is q
   module _ (i : ℕ) (q : TraySeat E) (held : ◌≡◌ {A = Result (TraySeat E) Refusal} (Ok q) (occupant x.count x.seats.now i)) where
@@ -64,9 +66,9 @@ module _ {E : Type 0} {g : Ghosts E} (x : Tray E g) where
     pub within : i < length x.seats.now
     within = omega (arith, there, enough)
 
-    -- it is emptied
-    pub emptied_kept : ∥ Sound g.kind.blank (with_seat s i Empty) ∥₁
-    emptied_kept = ∥∥₁_elim x.sound (hlevel props) (λ o. ∣ emptied_sound g.kind s o i there ∣₁)
+    -- it is left without a command, as when it is emptied
+    pub rested_kept : (q' : TraySeat E) → Rests q' → ∥ Sound g.kind.blank (with_seat s i q') ∥₁
+    rested_kept q' rests = ∥∥₁_elim x.sound (hlevel props) (λ o. ∣ rested_sound g.kind s o i there q' rests ∣₁)
 
     -- or loaded, which is one seating more
     pub loaded_kept : (n : ℕ) (d : TrayCommand E) → ◌≡◌ {A = Result ℕ Refusal} (Ok n) (once_more x.seatings)
@@ -102,6 +104,6 @@ module _ {E : Type 0} {g : Ghosts E} (x : Tray E g) where
 -- what a Seat and a Take put back, and what tells how many workers there are
 pub ruleset seating = (more_kept, loaded_kept)
 
-pub ruleset taking = (within, emptied_kept)
+pub ruleset taking = (within, rested_kept)
 
 pub ruleset counting_workers = (enough, length-map, length-take-le)

@@ -29,7 +29,7 @@ use Rattle.pieces.specs.TrayKinds.{TrayCommand, TraySeat}
 use Rattle.pieces.specs.declared.seats.Seat.TheVariants.{Empty, Loaded, Ended, Running}
 use Rattle.pieces.specs.declared.tray.records.Phase.TheVariants.{HeadRead, CellRead, CellWritten, NeighbourRead}
 use Rattle.pieces.specs.TrayKinds.{pushes, tray_knows, tray_kinds, tray_command, command_of}
-use Rattle.pieces.proofs.KindLaws.{known_command}
+use Rattle.pieces.proofs.KindLaws.{known_command, read_again}
 use Rattle.pieces.specs.OrdinaryTray.{ordinary_tray}
 use Rattle.pieces.specs.Seats.{seat_at, is_empty, reply_in}
 use Rattle.pieces.specs.TrayStates.{TrayState, cell_at, head_of, stack, tray_content, with_cells, with_head, with_seat}
@@ -129,7 +129,10 @@ module _ {E : Type 0} (e : ElementKind E) (s : TrayState E) (o : Sound e.blank s
     at_loaded d f true y =
         let t : Try E = record { command = d; head = h } in
         let w : Reply E → SeatView E = λ r. running (command_of d) (record { accesses = 1; disturbed = false; settled = Some r }) in
-        let look = limit_look e s.room v.content d (subst (λ x. cond (pushes d) (eqb x s.room) (eqb x 0) ≡ true) (sym size_is) y) in
+        let look =
+        limit_look e s.room v.content (command_of d) (subst (λ x. cond (pushes d) (eqb x s.room) (eqb x 0) ≡ true) (sym size_is) y)
+        ∙ ap (λ c. (v.content, limit_reply e c)) (read_again d)
+        in
         within (Loaded d) f refl Settled _ (refl, omega arith)
         (quiet (Running (HeadRead t)) ∙ ap (λ z. reseated v i (tried h t 1 z)) y
         ∙ sym (ap (settling w) look
@@ -191,7 +194,11 @@ module _ {E : Type 0} (e : ElementKind E) (s : TrayState E) (o : Sound e.blank s
       ordinary_is =
           ap (λ xs. ordinary_tray e.blank s.room xs (command_of t.command))
           (content_is s.cells h ∙ ap (λ z. stack e.blank s.cells z h.element) (agree h t a).0 ∙ ap (stack e.blank s.cells t.head.index) (p.0.stands a))
-          ∙ moved_stack e s.room s.cells t x.element ok written (p.2 a).element
+          ∙ subst (λ c. at_limit s.room t.head c ≡ false
+          → x.element ≡ cond (pushes t.command) t.command.element (cell_at e.blank s.cells (neighbour (record { command = c; head = t.head }))).element
+          → ordinary_tray e.blank s.room (stack e.blank s.cells t.head.index t.head.element) (command_of t.command)
+          ≡ (stack e.blank s.cells (neighbour (record { command = c; head = t.head })) x.element, done_reply e (record { command = c; head = t.head })))
+          (read_again t.command) (λ f m. moved_stack e s.room s.cells (command_of t.command) t.head x.element f written m) ok (p.2 a).element
 
       -- every other try that has not settled is disturbed
       try_disturbed : (t' : Try E) (n : ℕ) → TryTrue (cell_at e.blank s.cells t'.head.index) h t'

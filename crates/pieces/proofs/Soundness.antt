@@ -1,5 +1,5 @@
 -- Every call leaves a tray sound.
-use Rattle.std.proofs.Common.{◌≡◌, ℕ, ◌+◌, ◌<◌, ◌≤◌, Bool, true, false, cond, ltb, List, length, take, set, ℤ, pos, ◌+ℤ◌, ◌-ℤ◌, ◌≤ℤ◌, sym, refl, ap, ◌∙◌, subst, inl, inr, ⊎_elim, arith}
+use Rattle.std.proofs.Common.{◌≡◌, ℕ, ◌+◌, ◌<◌, ◌≤◌, Bool, true, false, cond, ltb, List, length, take, set, ℤ, pos, ◌+ℤ◌, ◌-ℤ◌, ◌≤ℤ◌, sym, refl, ap, ◌∙◌, subst, inl, inr, ⊎_elim, le_refl, arith}
 use Rattle.std.proofs.lemmas.List.{get_or-set_same, get_or-set_other}
 use Rattle.std.proofs.lemmas.Int.{ints, by_lt_z}
 use Rattle.std.proofs.lemmas.Bool.{cases_eq, cases_Bool, both_ways, ltb-true, eq-eqb, and_from, and_parts}
@@ -18,13 +18,13 @@ use Rattle.pieces.specs.declared.seats.Seat.TheVariants.{Empty, Loaded, Ended, R
 use Rattle.pieces.specs.declared.tray.records.Phase.TheVariants.{HeadRead, CellRead, CellWritten, NeighbourRead}
 use Rattle.pieces.specs.TrayKinds.{tray_knows, tray_command}
 use Rattle.pieces.specs.Seats.{seat_at}
-use Rattle.pieces.specs.TrayStates.{TrayState, state_of, cell_at, head_of, with_seat}
+use Rattle.pieces.specs.TrayStates.{TrayState, state_of, cell_at, head_of, with_seat, with_seats}
 use Rattle.pieces.specs.TrayAccess.{settled_early, agrees, helps, unchanged, moved_head, limit_reply, done_reply, accessed}
-use Rattle.pieces.specs.TrayCalls.{loaded, seat_outcome, step_outcome, take_outcome, clear_outcome}
+use Rattle.pieces.specs.TrayCalls.{filled, loaded, seat_outcome, step_outcome, take_outcome, clear_outcome}
 use Rattle.pieces.specs.TrayBounds.{all_unsettled, SeatOk, Held}
 use Rattle.pieces.specs.TraySound.{HeadTrue, TryTrue, ReadTrue, WriteTrue, SeatTrue, Consistent, Sound}
-use Rattle.pieces.proofs.Filling.{get_or_filled}
-use Rattle.pieces.proofs.Bounds.{held, access_bounded, loaded_bounded, emptied_bounded, clear_bounded}
+use Rattle.pieces.proofs.Filling.{filled_keeps}
+use Rattle.pieces.proofs.Bounds.{Rests, held, access_bounded, loaded_bounded, rested_bounded}
 use Rattle.pieces.proofs.Late.{agree, cell_same, write_try, write_keeps, move_keeps}
 
 caught_up : (a b : ℤ) → a ≤ℤ (b +ℤ pos 1) → ((b +ℤ pos 1) ≡ a → ⊥) → a ≤ℤ b
@@ -216,14 +216,24 @@ module _ {E : Type 0} (e : ElementKind E) (s : TrayState E) (o : Sound e.blank s
         consistent = λ _. quiet e s o i l (Loaded d) (s.seatings + 1) tt;
       }
 
-  -- or emptied
-  pub emptied_sound : i < s.count → Sound e.blank (with_seat s i Empty)
-  emptied_sound l =
+  -- or left without a command
+  pub rested_sound : i < s.count → (q : TraySeat E) → Rests q → Sound e.blank (with_seat s i q)
+  rested_sound l q r =
       record {
-        bounded = emptied_bounded e s o.bounded i l;
+        bounded = rested_bounded e s o.bounded i l q r;
         few_workers = o.few_workers;
-        consistent = λ _. quiet e s o i l Empty s.seatings tt;
+        consistent = λ _. quiet e s o i l q s.seatings (true_of q r);
       }
+    where
+      true_of : (q : TraySeat E) → Rests q → SeatTrue e.blank s.cells (head_of e.blank s.heads) q
+      true_of Empty r = tt
+      true_of (Loaded c) r = absurd r
+      true_of (Running t) r = absurd r
+      true_of (Ended y) r = tt
+
+  -- as one that is emptied
+  pub emptied_sound : i < s.count → Sound e.blank (with_seat s i Empty)
+  emptied_sound l = rested_sound l Empty tt
 
   pub seat_sound : (d : Command E) → Sound e.blank (seat_outcome s i d).1
   seat_sound d =
@@ -235,14 +245,12 @@ module _ {E : Type 0} (e : ElementKind E) (s : TrayState E) (o : Sound e.blank s
       take_left s.seats s.count s (with_seat s i Empty) (Sound e.blank) o i e.blank emptied_sound
 
 module _ {E : Type 0} (e : ElementKind E) (s : TrayState E) (o : Sound e.blank s) where
+  -- the first n seats are emptied
+  pub some_emptied_sound : (n : ℕ) → n ≤ s.count → Sound e.blank (with_seats s (filled n Empty s.seats))
+  some_emptied_sound =
+      filled_keeps (λ qs. Sound e.blank (with_seats s qs)) Empty s.seats s.count o.bounded.seats_long o
+      (λ qs i l p. emptied_sound e (with_seats s qs) p i l)
+
+  -- or all
   pub clear_sound : Sound e.blank (clear_outcome s)
-  clear_sound =
-      record {
-        bounded = clear_bounded e.blank s o.bounded;
-        few_workers = o.few_workers;
-        consistent = λ m. record {
-          head_true = (o.consistent m).head_true;
-          seats_true = λ j l. subst (λ q. SeatTrue e.blank s.cells (head_of e.blank s.heads) q)
-              (sym (get_or_filled s.count Empty s.seats j Empty l)) tt;
-        };
-      }
+  clear_sound = some_emptied_sound s.count (le_refl s.count)

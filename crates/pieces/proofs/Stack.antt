@@ -4,14 +4,17 @@ use Rattle.std.proofs.lemmas.List.{get_or-set_other, length_push, take_at, get_o
 use Rattle.std.proofs.lemmas.Bool.{eqb-false, cond-false}
 use Rattle.elements.specs.Codes.{reply, is_change}
 use Rattle.elements.specs.Kinds.{ElementKind}
+use Rattle.elements.specs.declared.commands.Command.{Command}
 use Rattle.elements.specs.declared.commands.Reply.{Reply}
 use Rattle.elements.specs.declared.commands.Code.TheVariants.{Done, Full, Popped, Empty}
 use Rattle.pieces.specs.declared.tray.records.Cell.{Cell}
+use Rattle.pieces.specs.declared.tray.records.Head.{Head}
 use Rattle.pieces.specs.declared.tray.records.Try.{Try}
-use Rattle.pieces.specs.TrayKinds.{TrayCommand, pushes, command_of}
+use Rattle.pieces.specs.declared.tray.records.TrayKind.TheVariants.{Push, Pop}
+use Rattle.pieces.specs.TrayKinds.{TrayCommand, is_push, pushes, tray_command}
 use Rattle.pieces.specs.OrdinaryTray.{ordinary_push, ordinary_pop, ordinary_tray}
 use Rattle.pieces.specs.TrayStates.{cell_at, below, stack}
-use Rattle.pieces.specs.TrayAccess.{at_limit, neighbour, limit_reply, done_reply}
+use Rattle.pieces.specs.TrayAccess.{at_limit, settled_early, neighbour, limit_reply, done_reply}
 
 module _ {E : Type 0} (blank : E) (cs : List (Cell E)) where
   length_below : (y : ℕ) → length (below blank cs y) ≡ y
@@ -55,13 +58,14 @@ module _ {E : Type 0} (blank : E) (cs : List (Cell E)) where
       )
 
 module _ {E : Type 0} (e : ElementKind E) (k : ℕ) where
-  -- at its limit the ordinary tray only looks
-  pub limit_look : (xs : List E) (c : TrayCommand E) → cond (pushes c) (eqb (length xs) k) (eqb (length xs) 0) ≡ true
-      → ordinary_tray e.blank k xs (command_of c) ≡ (xs, limit_reply e c)
-  limit_look xs c = go (pushes c)
+  -- at its limit the ordinary tray only looks, whatever command comes to it
+  pub limit_look : (xs : List E) (c : Command E) → cond (is_push c) (eqb (length xs) k) (eqb (length xs) 0) ≡ true
+      → ordinary_tray e.blank k xs c ≡ (xs, limit_reply e (tray_command c))
+  limit_look xs c = go (is_push c)
     where
       go : (b : Bool) → cond b (eqb (length xs) k) (eqb (length xs) 0) ≡ true
-          → cond b (ordinary_push e.blank k xs c.element) (ordinary_pop e.blank k xs) ≡ (xs, cond b (reply Full e.blank) (reply Empty e.blank))
+          → cond b (ordinary_push e.blank k xs c.element) (ordinary_pop e.blank k xs)
+          ≡ (xs, limit_reply e (record { kind = cond b Push Pop; element = c.element }))
       go true f = ap (λ y. cond y (xs, reply Full e.blank) (xs ++ (c.element ∷ []), reply Done e.blank)) f
       go false f = ap (λ y. cond y (xs, reply Empty e.blank) (take (length xs - 1) xs, reply Popped (get_or xs (length xs - 1) e.blank))) f
 
@@ -79,32 +83,39 @@ module _ {E : Type 0} (e : ElementKind E) (k : ℕ) where
       go true = refl
       go false = refl
 
-  -- a try that is not at its limit, whose head's element is written into its cell: what the ordinary tray makes of the
-  -- content is what the tray makes of the head
-  module _ (cs : List (Cell E)) (t : Try E) (u : E) where
+  -- a try of whatever command, that is not at its limit, and whose head's element is written into its cell: what the
+  -- ordinary tray makes of the content is what the tray makes of the head
+  module _ (cs : List (Cell E)) (c : Command E) (h : Head E) (u : E) where
     abbrev xs : List E
-    xs = stack e.blank cs t.head.index t.head.element
+    xs = stack e.blank cs h.index h.element
 
-    size : length xs ≡ t.head.index
-    size = length_stack e.blank cs t.head.index t.head.element
+    -- the try, of a push or not
+    abbrev try_of : Bool → Try E
+    try_of b = record { command = record { kind = cond b Push Pop; element = c.element }; head = h }
 
-    moved_by : (b : Bool) → cond b (eqb t.head.index k) (eqb t.head.index 0) ≡ false
-        → (cell_at e.blank cs t.head.index).element ≡ t.head.element
-        → u ≡ cond b t.command.element (cell_at e.blank cs (cond b (t.head.index + 1) (t.head.index - 1))).element
-        → ◌≡◌ {A = List E × Reply E} (cond b (ordinary_push e.blank k xs t.command.element) (ordinary_pop e.blank k xs))
-        (stack e.blank cs (cond b (t.head.index + 1) (t.head.index - 1)) u, cond b (reply Done e.blank) (reply Popped t.head.element))
+    size : length xs ≡ h.index
+    size = length_stack e.blank cs h.index h.element
+
+    moved_by : (b : Bool) → settled_early k (try_of b) ≡ false → (cell_at e.blank cs h.index).element ≡ h.element
+        → u ≡ cond b c.element (cell_at e.blank cs (neighbour (try_of b))).element
+        → ◌≡◌ {A = List E × Reply E} (cond b (ordinary_push e.blank k xs c.element) (ordinary_pop e.blank k xs))
+        (stack e.blank cs (neighbour (try_of b)) u, done_reply e (try_of b))
     moved_by true f w m =
-        cond-false (eqb (length xs) k) (xs, reply Full e.blank) (xs ++ (t.command.element ∷ []), reply Done e.blank) (ap (λ z. eqb z k) size ∙ f)
+        cond-false (eqb (length xs) k) (xs, reply Full e.blank) (xs ++ (c.element ∷ []), reply Done e.blank) (ap (λ z. eqb z k) size ∙ f)
         ∙ ap (λ ys. (ys, reply Done e.blank))
-        (sym (push_stack e.blank cs t.head.index t.head.element t.command.element w) ∙ ap (stack e.blank cs (t.head.index + 1)) (sym m))
+        (sym (push_stack e.blank cs h.index h.element c.element w) ∙ ap (stack e.blank cs (h.index + 1)) (sym m))
     moved_by false f w m =
-        let q = pop_stack e.blank cs t.head.index t.head.element u (eqb-false t.head.index 0 f) (sym m) in
+        let q = pop_stack e.blank cs h.index h.element u (eqb-false h.index 0 f) (sym m) in
         cond-false (eqb (length xs) 0) (xs, reply Empty e.blank) (take (length xs - 1) xs, reply Popped (get_or xs (length xs - 1) e.blank))
         (ap (λ z. eqb z 0) size ∙ f)
         ∙ ap (λ z. (take (z - 1) xs, reply Popped (get_or xs (z - 1) e.blank))) size
         ∙ (λ j. (sym q.0 j, reply Popped (q.1 j)))
 
-    pub moved_stack : at_limit k t.head t.command ≡ false → (cell_at e.blank cs t.head.index).element ≡ t.head.element
-        → u ≡ cond (pushes t.command) t.command.element (cell_at e.blank cs (neighbour t)).element
-        → ordinary_tray e.blank k xs (command_of t.command) ≡ (stack e.blank cs (neighbour t) u, done_reply e t)
-    moved_stack = moved_by (pushes t.command)
+    -- as the tray reads the command
+    abbrev t : Try E
+    t = record { command = tray_command c; head = h }
+
+    pub moved_stack : at_limit k h t.command ≡ false → (cell_at e.blank cs h.index).element ≡ h.element
+        → u ≡ cond (is_push c) c.element (cell_at e.blank cs (neighbour t)).element
+        → ordinary_tray e.blank k xs c ≡ (stack e.blank cs (neighbour t) u, done_reply e t)
+    moved_stack = moved_by (is_push c)

@@ -28,12 +28,13 @@ pub struct Access<E> {
     pub touched: Option<Touched<E>>,
 }
 
-// One Step: whose it was, the head after it, and the access that it made, or why it was refused.
+// One Step: the access that it made, or why it was refused; whose it was; and the head after it. In this order of fields
+// a run is played faster than in others.
 #[derive(Clone, Copy)]
 pub struct Step<E> {
+    pub access: Result<Access<E>, Refusal>,
     pub worker: usize,
     pub head: Option<Head<E>>,
-    pub access: Result<Access<E>, Refusal>,
 }
 
 // What a call did.

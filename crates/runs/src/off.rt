@@ -21,8 +21,11 @@ fn taken_off<E: Element>(event: Event<E>) -> Option<E>
 pub fn off<E: Element>(heap: Global, events: &[Event<E>]) -> Result<Vec<E>, AllocError>
     ensures { IfOk result (λ v. v.items ≡ came_off events.now) }
 {
-    events
-        .iter()
-        .filter_map(|event| taken_off(*event))
-        .collect(heap)
+    let mut elements = Vec::with_capacity(heap, events.len())?;
+    for event in events {
+        if let Some(element) = taken_off(*event) {
+            elements.push(element)?;
+        }
+    }
+    Ok(elements)
 }

@@ -10,7 +10,6 @@ ghost use Rattle.pieces.specs.Views.{workers_of};
 use crate::piece::Piece;
 use crate::seats::{KnownCommand, Seat, once_more};
 use crate::tray::Tray;
-use crate::tray::access::access;
 use crate::tray::making::fill;
 use crate::tray::records::TrayKind;
 use elements::answers::StepAnswer;
@@ -73,9 +72,7 @@ impl<'a, E: Element> Piece for Tray<'a, E> {
         ensures exact { Exactly result (tray_state self.new) (step_outcome E.Element.kind (tray_state self.old) worker) }
         ensures uncompared { Exactly result (tray_state self.new) (step_outcome (uncompared E.Element.kind.blank) (tray_state self.old) worker) }
     {
-        self.occupant(worker)?;
-        let room = self.room;
-        access(self.cells, self.heads, self.seats, room, worker)
+        self.make_access(worker)
     }
 
     // Empties the worker's seat and gives its reply; from a command that no try has begun on, code 9 and the blank.

@@ -1,5 +1,5 @@
 use Rattle.pieces.proofs.Kept.{within, reached, stepped_kept, stepped_uncompared}
-use Rattle.pieces.proofs.tray.piece.TrayPiece.step.Goals as goal
+use Rattle.pieces.proofs.tray.Tray.make_access.Goals as goal
 
 pub access-requires-clause-seat : goal.access-requires-clause-seat
 access-requires-clause-seat g c = within c.args.self.now _ _ c.in_ok-occupant.ensures
