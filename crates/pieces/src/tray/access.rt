@@ -21,7 +21,7 @@ use elements::element::Element;
 use elements::refusals::{Cause, Refusal};
 
 // The next access of a try under way, in strips of `room` places: what it answers, and what the worker's seat is then. Each
-// case writes the seat itself, and so only what it changes.
+// case writes the seat, since one place that wrote it for all of them made a Step slower.
 fn go_on<E: Element>(
     cells: &mut [Cell<E>],
     heads: &mut [Head<E>],

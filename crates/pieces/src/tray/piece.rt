@@ -86,7 +86,6 @@ impl<'a, E: Element> Piece for Tray<'a, E> {
     }
 
     // Empties every worker's seat.
-    #[tactic(auto, using(crate::proofs::Kept::cleared_kept))]
     fn clear(&mut self)
         ensures { tray_state self.new ≡ clear_outcome (tray_state self.old) }
     {
